@@ -1,0 +1,1 @@
+// The cutting theory stands in specs/: definitions and theorems, no code.
