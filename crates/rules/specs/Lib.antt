@@ -28,6 +28,8 @@ pub mod Uses
 pub mod Valid
 -- one piece more than cuts; 2+k bytes a piece, at most 5n-10 in all, which triangles take
 pub mod Count
+-- readings of sight that agree have the same answer and the same bytes
+pub mod Agree
 -- ---- how the first smallest cutting is found
 -- the first of the cheapest, found in two steps
 pub mod Cheapest
