@@ -21,15 +21,19 @@ use Rattle.rules.specs.Uses.{uses, uses-stands, stands-uses, uses-in, us
 abbrev pub SamePairs : Pairs → Pairs → Type 0
 SamePairs C D = (a b : ℕ) → T (C a b) ↔ T (D a b)
 
--- the same set has the same pieces
-pub same-pieces : (n : ℕ) (C D : Pairs) → SamePairs C D → pieces n C ≡ pieces n D
-same-pieces n C D h = ap (pieces n) (λ i a b. same (C a b) (D a b) (h a b) i)
+-- two sets of the same pairs are one set
+pub same-set : (C D : Pairs) → SamePairs C D → C ≡ D
+same-set C D h i a b = same (C a b) (D a b) (h a b) i
   where
     same : (p q : Bool) → T p ↔ T q → p ≡ q
     same true true e = refl
     same true false e = absurd (e .0 tt)
     same false true e = absurd (e .1 tt)
     same false false e = refl
+
+-- and have the same pieces
+pub same-pieces : (n : ℕ) (C D : Pairs) → SamePairs C D → pieces n C ≡ pieces n D
+same-pieces n C D h = ap (pieces n) (same-set C D h)
 
 pub uses-tree : (n : ℕ) (C : Pairs) → 3 ≤ n → Uncrossed n C → SamePairs C (uses 0 (tree n C))
 uses-tree n C le un a b = (used, held)

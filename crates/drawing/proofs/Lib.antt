@@ -1,0 +1,4 @@
+-- signed numbers of the machine
+mod Machine
+-- the table of sight as it fills
+mod Cells

@@ -1,0 +1,49 @@
+-- Signed numbers of the machine: what a comparison of two of them tells, and that the products of coordinates' differences fit.
+use mathlib.Core.Path.{_≡_, refl, sym, ap, _∙_}
+use Prim.Native.Nat.{ℕ, _^_, _≤_, _<_}
+use lib.IntN.{ℤ, natAbs, _-ℤ_, _*ℤ_}
+use lib.Signed.{mag, leZ, ltZ, _≤ℤ_, _<ℤ_}
+use mir.Syntax.{w64}
+use mir.Val.{toZ, ofZ}
+use mir.Facts.{toZ-ofZ}
+use borrow.Author.Needs.{sfits-of}
+use Rattle.whole.specs.Bounds.{Val, fit, par, loc, less, times}
+use Rattle.drawing.specs.Drawing.{Point, furthest}
+use Rattle.drawing.specs.Tells.{Tells}
+use Rattle.drawing.specs.Parts.{Close}
+
+-- ---- a comparison as an answer
+module _ {z x u y : ℤ} {P : Type 0} (hz : z ≡ x) (hu : u ≡ y) where
+  pub by-lt : (x <ℤ y → P) → (P → x <ℤ y) → Tells (ltZ z u) P
+  by-lt f g = record { sure = λ t. f (record { lt = rw (hz, hu) at t }); told = λ p. rw (hz, hu) (g p .lt) }
+
+  pub by-le : (x ≤ℤ y → P) → (P → x ≤ℤ y) → Tells (leZ z u) P
+  by-le f g = record { sure = λ t. f (record { le = rw (hz, hu) at t }); told = λ p. rw (hz, hu) (g p .le) }
+
+-- ---- coordinates within the limits, as the machine computes with them
+abbrev pub back : ℤ → ℤ
+back z = toZ w64 (ofZ w64 z)
+
+-- a result that is known, held in a local
+pub held : {r x : ℤ} → mag r < 2 ^ 63 → r ≡ x → back r ≡ x
+held ok e = toZ-ofZ (sfits-of ok) ∙ e
+
+-- `==` compares the bits
+pub same-bits : {m n : ℕ} {x y : ℤ} → toZ w64 m ≡ x → toZ w64 n ≡ y → m ≡ n → x ≡ y
+same-bits p q e = sym p ∙ ap (toZ w64) e ∙ q
+
+-- a coordinate
+own : {x : ℤ} → natAbs x ≤ furthest → Val (back x) x furthest
+own {x} h = par (fit {z = x} tt (record { is = refl; below = h })) h
+
+module _ {p : Point} (h : Close p) where
+  pub the-x : Val (back (p .x)) (p .x) furthest
+  the-x = own (h .close-x)
+
+  pub the-y : Val (back (p .y)) (p .y) furthest
+  the-y = own (h .close-y)
+
+-- the product of two differences, each held in a local
+pub product : {z x u y s a t b : ℤ} → Val z x furthest → Val u y furthest → Val s a furthest → Val t b furthest →
+    Val (back (z -ℤ u) *ℤ back (s -ℤ t)) ((x -ℤ y) *ℤ (a -ℤ b)) 4000000000000
+product h k m n = times (loc w64 tt (less h k)) (loc w64 tt (less m n))

@@ -1,0 +1,23 @@
+-- ---- to be believed: 01's definitions, and what the two public calls promise in their terms
+pub mod Drawing
+pub mod Judgement
+pub mod Sight
+-- ---- what the private functions promise
+pub mod Parts
+-- ---- laws: truth values that tell, segments, the corners' numbers, the sides of a simple drawing, sight
+pub mod Tells
+mod Spell
+pub mod Segments
+pub mod Quick
+pub mod Ends
+pub mod Round
+pub mod Sides
+pub mod Seeing
+-- ---- the two answers, and that no second one keeps the promise
+pub mod Judging
+pub mod Seen
+-- ---- the tests that antt computes
+pub mod Tests
+-- and of whole drawings, and what they say of 01's outlines
+pub mod Mirror
+pub mod Outlines

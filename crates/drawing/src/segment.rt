@@ -1,0 +1,94 @@
+// Segments between points with whole coordinates. This module alone knows how it is decided what two segments share.
+ghost use mathlib.Core.Path.{_≡_};
+ghost use Rattle.drawing.specs.Drawing.{Turn, Shared, SharedOnlyAt};
+ghost use Rattle.drawing.specs.Tells.{Tells};
+ghost use Rattle.drawing.specs.Segments.{Dot, OneSide};
+ghost use Rattle.drawing.specs.Quick.{Touch};
+ghost use Rattle.drawing.specs.Parts.{point, Close};
+
+pub struct Place {
+    pub x: i64,
+    pub y: i64,
+}
+
+// 01's Turn(a, b, c): the coordinates' limit keeps every product and difference within i64.
+pub fn turn(a: Place, b: Place, c: Place) -> i64
+    requires { ⌜ Close (point a) × Close (point b) × Close (point c) ⌝ }
+    ensures { λ r. ⌜ r ≡ Turn (point a) (point b) (point c) ⌝ }
+{
+    (b.x - a.x) * (c.y - a.y) - (b.y - a.y) * (c.x - a.x)
+}
+
+// (u - z) . (w - z): of three points on one line, not above zero where z lies between u and w.
+fn dot(z: Place, u: Place, w: Place) -> i64
+    requires { ⌜ Close (point z) × Close (point u) × Close (point w) ⌝ }
+    ensures { λ r. ⌜ r ≡ Dot (point z) (point u) (point w) ⌝ }
+{
+    (u.x - z.x) * (w.x - z.x) + (u.y - z.y) * (w.y - z.y)
+}
+
+pub fn same(a: Place, b: Place) -> bool
+    requires { ⌜ Close (point a) × Close (point b) ⌝ }
+    ensures { λ r. ⌜ Tells r (point a ≡ point b) ⌝ }
+{
+    if a.x == b.x { a.y == b.y } else { false }
+}
+
+// Two turns of one line: both strictly left of it, or both strictly right.
+pub fn one_side(s: i64, t: i64) -> bool
+    ensures { λ r. ⌜ Tells r (OneSide s t) ⌝ }
+{
+    if s > 0 {
+        t > 0
+    } else if s < 0 {
+        t < 0
+    } else {
+        false
+    }
+}
+
+// Of four points on one line, an end of one segment lies on the other.
+fn touch(a: Place, b: Place, c: Place, d: Place) -> bool
+    requires { ⌜ Close (point a) × Close (point b) × Close (point c) × Close (point d) ⌝ }
+    ensures { λ r. ⌜ Tells r (Touch (point a) (point b) (point c) (point d)) ⌝ }
+{
+    if dot(c, a, b) <= 0 {
+        true
+    } else if dot(d, a, b) <= 0 {
+        true
+    } else if dot(a, c, d) <= 0 {
+        true
+    } else {
+        dot(b, c, d) <= 0
+    }
+}
+
+// The segments a b and c d share a point.
+pub fn share(a: Place, b: Place, c: Place, d: Place) -> bool
+    requires { ⌜ Close (point a) × Close (point b) × Close (point c) × Close (point d) ⌝ }
+    ensures { λ r. ⌜ Tells r (Shared (point a) (point b) (point c) (point d)) ⌝ }
+{
+    let s = turn(a, b, c);
+    let t = turn(a, b, d);
+    if one_side(s, t) {
+        false
+    } else if one_side(turn(c, d, a), turn(c, d, b)) {
+        false
+    } else if s == t {
+        touch(a, b, c, d)
+    } else {
+        true
+    }
+}
+
+// The segments e a and e c share only e.
+pub fn only_end(e: Place, a: Place, c: Place) -> bool
+    requires { ⌜ Close (point e) × Close (point a) × Close (point c) ⌝ }
+    ensures { λ r. ⌜ Tells r (SharedOnlyAt (point e) (point e) (point a) (point e) (point c)) ⌝ }
+{
+    if turn(e, a, c) == 0 {
+        dot(e, a, c) <= 0
+    } else {
+        true
+    }
+}
