@@ -1,0 +1,96 @@
+// The first smallest cutting, from who sees whom in two drawings. Knows no coordinate.
+//
+// The search fills a table of lines, the shorter before the longer: for each line the fewest pieces under it, and for each
+// centre x the cheapest road of corners that x sees (`lines`, over the rows of `lanes`). It keeps values only. The writer finds
+// the pieces again from the values (`roads`, `centres`) and tells them (`telling`).
+mod centres;
+mod lanes;
+mod lines;
+mod roads;
+mod sight;
+mod sizes;
+mod telling;
+
+use lines::solve;
+use sight::shade_all;
+use sizes::CELLS;
+use sizes::LANES;
+use sizes::ROW;
+use telling::tell;
+ghost use Rattle.cutting.specs.Tables.{Sized};
+ghost use Rattle.cutting.specs.Answer.{Served, Answers};
+
+// What came of it; `Answers` says what each case promises. Found has the count of pieces and the count of bytes used.
+pub enum Outcome {
+    Refused,
+    NoCutting,
+    Found { pieces: usize, bytes: usize },
+}
+
+// The tables are filled, and the answer is told from them.
+fn work(
+    n: usize,
+    first: &[u8],
+    second: &[u8],
+    veil: &mut [u8],
+    val: &mut [u8],
+    left: &mut [u8],
+    right: &mut [u8],
+    road: &mut [u8],
+    answer: &mut [u8],
+) -> Outcome
+    requires { ⌜ Served n (now first) (now second) (now answer) ⌝ }
+    requires { ⌜ Sized (now veil) (now val) (now left) (now right) (now road) ⌝ }
+    ensures { λ r. ⌜ Answers n (now (first .entry)) (now (second .entry)) (now (answer .entry)) (now (answer .exit)) r ⌝ }
+{
+    shade_all(first, second, veil);
+    solve(veil, val, left, right, road, n);
+    tell(veil, val, road, n, answer)
+}
+
+// The tables stand in this function's frame, and no loop beside them.
+fn frame(n: usize, first: &[u8], second: &[u8], answer: &mut [u8]) -> Outcome
+    requires { ⌜ Served n (now first) (now second) (now answer) ⌝ }
+    ensures { λ r. ⌜ Answers n (now (first .entry)) (now (second .entry)) (now (answer .entry)) (now (answer .exit)) r ⌝ }
+{
+    let mut veil = [0u8; CELLS];
+    let mut val = [0u8; CELLS];
+    let mut left = [0u8; CELLS];
+    let mut right = [0u8; CELLS];
+    let mut road = [0u8; LANES];
+    work(
+        n,
+        first,
+        second,
+        &mut veil,
+        &mut val,
+        &mut left,
+        &mut right,
+        &mut road,
+        answer,
+    )
+}
+
+// The first smallest cutting of n corners. Cell x * 64 + y of `first` and of `second` is not 0 where x sees y in that drawing.
+// The bytes are those of 01, "What comes back". What is not served is refused, and leaves the answer alone: n outside 3 to 64,
+// arrays under 4,096 cells, a room under 5n-10 bytes.
+pub fn cut(n: usize, first: &[u8], second: &[u8], answer: &mut [u8]) -> Outcome
+    ensures { λ r. ⌜ Answers n (now (first .entry)) (now (second .entry)) (now (answer .entry)) (now (answer .exit)) r ⌝ }
+{
+    if n < 3 {
+        return Outcome::Refused;
+    }
+    if n > ROW {
+        return Outcome::Refused;
+    }
+    if first.len() < CELLS {
+        return Outcome::Refused;
+    }
+    if second.len() < CELLS {
+        return Outcome::Refused;
+    }
+    if answer.len() < 5 * n - 10 {
+        return Outcome::Refused;
+    }
+    frame(n, first, second, answer)
+}
