@@ -1,0 +1,130 @@
+-- The row Z, H of 01: "Cuts 0-2, 0-3 and 2-5 are valid alone too, and come later." One computed test of the three.
+use mathlib.Core.Path.{_≡_, refl, sym, _∙_, ap, subst}
+use mathlib.Core.Bool.{Bool, true, false, not, _&&_, _||_}
+use mathlib.Core.Logic.{inl, inr, ⊎-elim}
+use mathlib.Core.List.{List, [], _∷_, flatMap}
+use Prim.Native.Nat.{ℕ, suc}
+use native.Mathlib.Omega.{arith}
+use lib.Dec.{T, eqb, eqb→eq, ltb}
+use lib.Ieee.Fits.{and-l, and-r}
+use lib.ListN.{length}
+use Rattle.drawing.specs.Tells.{Tells, as-well, itself, never, and-tells, or-tells, not-tells, eq-tells, lower-tells}
+use Rattle.drawing.specs.Outlines.{Z, H}
+use Rattle.rules.specs.Lists.{In}
+use Rattle.rules.specs.Cutting.{Pairs, Inner, Uncrossed, Tree, leaf, link, tree, told, pieces, flat, run, Less, one}
+use Rattle.rules.specs.Centre.{HasCentre}
+use Rattle.rules.specs.Valid.{first-unique}
+use Rattle.rules.specs.Uses.{uses}
+use Rattle.desk.specs.Answer.{InBoth, Cut, ValidCutting, FirstCutting}
+use Rattle.demands.specs.Checks.{every, every-passes}
+use Rattle.demands.specs.Plan.{listed, plan, plan-first, listed-valid}
+
+-- ---- one cut alone
+unfoldable pub alone : ℕ → ℕ → Pairs
+alone a b x y = eqb x a && eqb y b
+
+alone-is : (a b x y : ℕ) → T (alone a b x y) → (x ≡ a) × (y ≡ b)
+unfolding alone
+alone-is a b x y = and-tells (eq-tells x a) (eq-tells y b) .sure
+
+alone-uncrossed : (n a b : ℕ) → Inner n a b → Uncrossed n (alone a b)
+alone-uncrossed n a b i = record {
+  inner = λ x y h. let p = alone-is a b x y h in rw (p .0, p .1) i;
+  apart = λ x y z w h k.
+      let p = alone-is a b x y h in
+      let q = alone-is a b z w k in
+      ⊎-elim (λ c. omega (arith, c .0)) (λ c. omega (arith, c .0));
+}
+
+-- ---- tests: a pair that is no side, a run before another, a tree in a list
+abbrev inner-test : ℕ → ℕ → ℕ → Bool
+inner-test n a b = ltb a b && (ltb b n && not (eqb b (suc a) || (eqb a 0 && eqb (suc b) n)))
+
+inner-tells : (n a b : ℕ) → Tells (inner-test n a b) (Inner n a b)
+inner-tells n a b =
+    as-well (and-tells (lower-tells a b) (and-tells (lower-tells b n)
+    (not-tells (or-tells (eq-tells _ _) (and-tells (eq-tells _ _) (eq-tells _ _))))))
+    (λ h. record { rises = h .0; small = h .1 .0; no-side = h .1 .1 }) (λ i. (i .rises, (i .small, i .no-side)))
+
+abbrev less-test : List ℕ → List ℕ → Bool
+less-test [] t = false
+less-test (a ∷ s) [] = false
+less-test (a ∷ s) (b ∷ t) = ltb a b || (eqb a b && less-test s t)
+
+less-tells : (s t : List ℕ) → Tells (less-test s t) (Less s t)
+less-tells [] t = never (λ h. h)
+less-tells (a ∷ s) [] = never (λ h. h)
+less-tells (a ∷ s) (b ∷ t) = or-tells (lower-tells a b) (and-tells (eq-tells a b) (less-tells s t))
+
+abbrev same-tree : Tree → Tree → Bool
+same-tree leaf leaf = true
+same-tree leaf (link c v s) = false
+same-tree (link b u r) leaf = false
+same-tree (link b u r) (link c v s) = eqb b c && (same-tree u v && same-tree r s)
+
+tree-same : (t t′ : Tree) → T (same-tree t t′) → t ≡ t′
+tree-same leaf leaf h = refl
+tree-same leaf (link c v s) h = absurd h
+tree-same (link b u r) leaf h = absurd h
+tree-same (link b u r) (link c v s) h =
+    let k = and-r (eqb b c) (same-tree u v && same-tree r s) h in
+    let p = eqb→eq b c (and-l (eqb b c) (same-tree u v && same-tree r s) h) in
+    let q = tree-same u v (and-l (same-tree u v) (same-tree r s) k) in
+    let w = tree-same r s (and-r (same-tree u v) (same-tree r s) k) in
+    cc
+
+abbrev in-test : Tree → List Tree → Bool
+in-test t [] = false
+in-test t (u ∷ l) = same-tree t u || in-test t l
+
+in-sure : (t : Tree) (l : List Tree) → T (in-test t l) → In t l
+in-sure t [] h = h
+in-sure t (u ∷ l) h = go (same-tree t u) (tree-same t u) h (in-sure t l)
+  where
+    go : (b : Bool) → (T b → t ≡ u) → T (b || in-test t l) → (T (in-test t l) → In t l) → In t (u ∷ l)
+    go true e h f = inl (e tt)
+    go false e h f = inr (f h)
+
+-- ---- the three cuts
+-- alone it is a valid cutting of Z and H, of two pieces, and its run comes after the run of the cutting that is given
+pub record Later (a b : ℕ) : Type 0 where
+  pub valid : ValidCutting Z H (alone a b)
+  pub two-pieces : length (pieces 6 (alone a b)) ≡ 2
+  pub later : (C : Pairs) → FirstCutting Z H C → Less (run 6 C) (run 6 (alone a b))
+
+abbrev pub later-cuts : List (ℕ × ℕ)
+later-cuts = (0, 2) ∷ (0, 3) ∷ (2, 5) ∷ []
+
+abbrev later-test : ℕ × ℕ → Bool
+later-test c =
+    let C = alone (c .0) (c .1) in
+    inner-test 6 (c .0) (c .1)
+    && (in-test (tree 6 C) (listed Z H) && (eqb (length (pieces 6 C)) 2 && less-test (flat (told 0 (plan Z H))) (run 6 C)))
+
+-- the run of the cutting that is given
+given-run : (C : Pairs) → FirstCutting Z H C → run 6 C ≡ flat (told 0 (plan Z H))
+unfolding flatMap
+given-run C f =
+    let p = plan-first Z H (omega arith) tt in
+    ap flat (first-unique (Cut Z H) (HasCentre (InBoth Z H)) one 6 C (uses 0 (plan Z H)) f (p .0) ∙ p .1)
+
+later-sure : (c : ℕ × ℕ) → T (later-test c) → Later (c .0) (c .1)
+later-sure c h =
+    let a = c .0 in
+    let b = c .1 in
+    let runs = less-tells (flat (told 0 (plan Z H))) (run 6 (alone a b)) in
+    let trees = itself (in-test (tree 6 (alone a b)) (listed Z H)) in
+    let counts = eq-tells (length (pieces 6 (alone a b))) 2 in
+    let p = and-tells (inner-tells 6 a b) (and-tells trees (and-tells counts runs)) .sure h in
+    record {
+      valid = listed-valid Z H (omega arith) (alone a b) (alone-uncrossed 6 a b (p .0)) (in-sure _ (listed Z H) (p .1 .0));
+      two-pieces = p .1 .1 .0;
+      later = λ C f. subst (λ r. Less r (run 6 (alone a b))) (sym (given-run C f)) (p .1 .1 .1);
+    }
+
+pass : T (every later-test later-cuts)
+unfolding flatMap pieces alone
+pass = tt
+
+pub later-cuts-are : (c : ℕ × ℕ) → In c later-cuts → Later (c .0) (c .1)
+later-cuts-are c i = later-sure c (every-passes later-test later-cuts pass c i)

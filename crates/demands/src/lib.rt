@@ -1,0 +1,1 @@
+// Theorems about the answer: see specs/Lib.antt. No code.

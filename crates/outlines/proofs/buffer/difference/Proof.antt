@@ -1,0 +1,50 @@
+-- `outlines::buffer::difference` meets its contract.
+use Prim.Native.Nat.{_-_}
+use native.Mathlib.Omega.{arith}
+use Rattle.outlines.proofs.buffer.difference.Statement.{statement}
+use Rattle.outlines.proofs.buffer.difference.Tie as tie
+
+abbrev Inv-loop : tie.InvT-loop
+Inv-loop a b i₀ i-end i = Unit {0}
+
+abbrev μ-loop : tie.MeasureT-loop
+μ-loop a b i₀ i-end i = i-end - i
+
+loop-holds : tie.Need-loop-holds Inv-loop μ-loop
+loop-holds c = tt
+
+shared-slice-read-if1 : tie.Need-shared-slice-read-if1 Inv-loop μ-loop
+shared-slice-read-if1 c = omega arith
+
+byte-requires : tie.Need-byte-requires Inv-loop μ-loop
+byte-requires c κs = tt
+
+returns : tie.Need-returns Inv-loop μ-loop
+returns c = tt
+
+add-i : tie.Need-add-i Inv-loop μ-loop
+add-i c = omega arith
+
+loop-less : tie.Need-loop-less Inv-loop μ-loop
+loop-less c = omega arith
+
+loop-again : tie.Need-loop-again Inv-loop μ-loop
+loop-again c = tt
+
+returns-2 : tie.Need-returns-2 Inv-loop μ-loop
+returns-2 c = tt
+
+pub difference-spec : {M : Type 1} → statement M
+difference-spec =
+    tie.close
+    (tie.spec
+    Inv-loop
+    μ-loop
+    loop-holds
+    shared-slice-read-if1
+    byte-requires
+    returns
+    add-i
+    loop-less
+    loop-again
+    returns-2)

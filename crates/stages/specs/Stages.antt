@@ -1,0 +1,31 @@
+-- The promise of `iravikkon_cut`: that of `cutting::cut`, its outcome told in numbers. (`iravikkon_sight` has the promise of `drawing::sight`.)
+use mathlib.Core.Path.{_≡_, sym, subst, _∙_}
+use mathlib.Core.List.{List}
+use Prim.Native.Nat.{ℕ}
+use native.Mathlib.Omega.{arith}
+use Rattle.cutting.specs.declared.Outcome.{Outcome}
+use Rattle.cutting.specs.declared.Outcome.the-variants.{Refused, NoCutting, Found}
+use Rattle.cutting.specs.Answer.{Answers, cut-unique}
+
+-- the numbers of each outcome: 01's 0 and 9, and 1 where the call was not served
+abbrev pub Says : Outcome → ℕ → ℕ → ℕ → Type 0
+Says Refused number count bytes = (number ≡ 1) × (count ≡ 0) × (bytes ≡ 0)
+Says NoCutting number count bytes = (number ≡ 9) × (count ≡ 0) × (bytes ≡ 0)
+Says (Found p b) number count bytes = (number ≡ 0) × (count ≡ p) × (bytes ≡ b)
+
+pub record Cuts (n : ℕ) (first second before after : List ℕ) (number count bytes : ℕ) : Type 0 where
+  pub outcome : Outcome
+  pub answers : Answers n first second before after outcome
+  pub says : Says outcome number count bytes
+
+-- no second result and no second buffer
+says-one : (o : Outcome) (k c b k′ c′ b′ : ℕ) → Says o k c b → Says o k′ c′ b′ → (k ≡ k′) × (c ≡ c′) × (b ≡ b′)
+says-one Refused k c b k′ c′ b′ h g = (omega arith, omega arith, omega arith)
+says-one NoCutting k c b k′ c′ b′ h g = (omega arith, omega arith, omega arith)
+says-one (Found p q) k c b k′ c′ b′ h g = (omega arith, omega arith, omega arith)
+
+pub cuts-unique : (n : ℕ) (first second before after after′ : List ℕ) (k c b k′ c′ b′ : ℕ) →
+    Cuts n first second before after k c b → Cuts n first second before after′ k′ c′ b′ → ((k ≡ k′) × (c ≡ c′) × (b ≡ b′)) × (after ≡ after′)
+cuts-unique n first second before after after′ k c b k′ c′ b′ x y =
+    let e = cut-unique n first second before after after′ (x .outcome) (y .outcome) (x .answers) (y .answers) in
+    (says-one (y .outcome) k c b k′ c′ b′ (subst (λ o. Says o k c b) (e .0) (x .says)) (y .says), e .1)
