@@ -1,0 +1,4 @@
+mod Worth
+mod Turning
+mod Feeding
+mod Writing

@@ -1,0 +1,56 @@
+-- `wire::report::place`: the first byte that differs lies in the expected output.
+use mathlib.Core.Path.{sym}
+use native.Mathlib.Omega.{arith}
+use lib.Seq.{length-take-le}
+use borrow.Author.Needs.{needs}
+use Rattle.wire.proofs.report.place.Statement.{statement}
+use Rattle.wire.proofs.report.place.Tie as tie
+
+slice-aggregate-write-all : tie.Need-slice-aggregate-write-all
+slice-aggregate-write-all c = search needs
+
+write-all-requires : tie.Need-write-all-requires
+write-all-requires c κs = search needs
+
+print-decimal-requires : tie.Need-print-decimal-requires
+print-decimal-requires c κs = search needs
+
+slice-aggregate-write-all-2 : tie.Need-slice-aggregate-write-all-2
+slice-aggregate-write-all-2 c = search needs
+
+write-all-requires-2 : tie.Need-write-all-requires-2
+write-all-requires-2 c κs = search needs
+
+slice-aggregate-lines : tie.Need-slice-aggregate-lines
+slice-aggregate-lines c = sym (length-take-le _ _ (omega arith))
+
+lines-requires : tie.Need-lines-requires
+lines-requires c κs = search needs
+
+print-decimal-requires-2 : tie.Need-print-decimal-requires-2
+print-decimal-requires-2 c κs = search needs
+
+slice-aggregate-write-all-3 : tie.Need-slice-aggregate-write-all-3
+slice-aggregate-write-all-3 c = search needs
+
+write-all-requires-3 : tie.Need-write-all-requires-3
+write-all-requires-3 c κs = search needs
+
+returns : tie.Need-returns
+returns c = search needs
+
+pub place-spec : {M : Type 1} → statement M
+place-spec =
+    tie.close
+    (tie.spec
+    slice-aggregate-write-all
+    write-all-requires
+    print-decimal-requires
+    slice-aggregate-write-all-2
+    write-all-requires-2
+    slice-aggregate-lines
+    lines-requires
+    print-decimal-requires-2
+    slice-aggregate-write-all-3
+    write-all-requires-3
+    returns)

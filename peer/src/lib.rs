@@ -1,0 +1,20 @@
+//! An independent implementation of document 01, the paper of rules ("01" in the comments), to run the product
+//! against: written from the document, with exact whole numbers, and sharing no code with it.
+//!
+//! `drawing` judges drawings and finds sight; `cutting` searches from sight alone, and
+//! `exhaustive` does the same for few corners by trying every cutting; `desk` answers a pair,
+//! `frames` a whole input. `pairs` makes drawings, pairs and inputs to try; `program` runs another
+//! program on them, and `desks` is the seam for another library. `show` draws pairs with a
+//! program's answers.
+
+pub mod cutting;
+pub mod desk;
+pub mod desks;
+pub mod drawing;
+pub mod exhaustive;
+pub mod frames;
+#[cfg(feature = "linked")]
+pub mod linked;
+pub mod pairs;
+pub mod program;
+pub mod show;

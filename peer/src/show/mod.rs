@@ -1,0 +1,18 @@
+//! A page of SVG that shows pairs of drawings and what the program answered: the cutting, or the
+//! refusal. The answers are the program's; the page judges and cuts nothing itself.
+//!
+//! `reading` reads frames and answers, `words` says things; `plane`, `labels`, `colours` and
+//! `marks` find what to draw where, `figure` draws one drawing, `page` sets drawings and words
+//! under each other, and `svg` writes elements.
+
+mod colours;
+mod figure;
+mod labels;
+mod marks;
+mod page;
+mod plane;
+mod reading;
+mod svg;
+pub mod words;
+
+pub use page::{page, MOST_PAIRS};

@@ -1,0 +1,75 @@
+//! The words for the numbers of 01, "What comes back": one table, which the README quotes.
+
+const TABLE: &str = include_str!("words.txt");
+
+/// The line of each number from 0, such as "4: the first drawing is not simple".
+pub fn lines() -> impl Iterator<Item = &'static str> {
+    TABLE.lines()
+}
+
+/// The line of a number; nothing for a number that 01 does not have.
+pub fn line(number: u8) -> &'static str {
+    lines().nth(usize::from(number)).unwrap_or_default()
+}
+
+/// A count with its noun: "1 piece", "2 pieces".
+pub fn counted(count: usize, noun: &str) -> String {
+    let ending = if count == 1 { "" } else { "s" };
+    format!("{} {noun}{ending}", grouped(count as i64))
+}
+
+/// A whole number in groups of three digits: 1,000,000.
+pub fn grouped(number: i64) -> String {
+    let digits = number.unsigned_abs().to_string();
+    let mut text = String::from(if number < 0 { "-" } else { "" });
+    for (k, digit) in digits.chars().enumerate() {
+        if k > 0 && (digits.len() - k).is_multiple_of(3) {
+            text.push(',');
+        }
+        text.push(digit);
+    }
+    text
+}
+
+/// Rising numbers, three and more that follow each other as a span: "0-3, 5".
+pub fn spans(numbers: &[usize]) -> String {
+    let mut parts = Vec::new();
+    let mut rest = numbers;
+    while let Some(&low) = rest.first() {
+        let follow = rest.iter().zip(low..).take_while(|(a, b)| **a == *b);
+        let (now, later) = rest.split_at(follow.count());
+        if now.len() > 2 {
+            parts.push(format!("{low}\u{2013}{}", now[now.len() - 1]));
+        } else {
+            parts.extend(now.iter().map(usize::to_string));
+        }
+        rest = later;
+    }
+    parts.join(", ")
+}
+
+/// The name of a piece: A to Z, then AA, AB and so on.
+pub fn letters(piece: usize) -> String {
+    let letter = |k: usize| char::from(b'A' + (k % 26) as u8);
+    match piece / 26 {
+        0 => letter(piece).to_string(),
+        more => format!("{}{}", letter(more - 1), letter(piece)),
+    }
+}
+
+/// The text in lines of at most so many characters, broken at spaces.
+pub fn wrapped(text: &str, most: usize) -> Vec<String> {
+    let mut lines = vec![String::new()];
+    for word in text.split(' ') {
+        let last = lines.len() - 1;
+        if lines[last].is_empty() {
+            lines[last].push_str(word);
+        } else if lines[last].chars().count() + 1 + word.chars().count() <= most {
+            lines[last].push(' ');
+            lines[last].push_str(word);
+        } else {
+            lines.push(word.to_string());
+        }
+    }
+    lines
+}
