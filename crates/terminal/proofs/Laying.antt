@@ -2,7 +2,7 @@
 use mathlib.Core.Path.{_≡_, refl, sym, _∙_, ap}
 use mathlib.Core.Bool.{true, false}
 use mathlib.Core.List.{List, [], _∷_, _++_, append-nil}
-use Prim.Native.Nat.{ℕ, zero, suc, _+_, _*_, _≤_, min}
+use Prim.Native.Nat.{ℕ, zero, suc, _+_, _≤_}
 use native.Mathlib.Omega.{arith}
 use lib.IntN.{ℤ}
 use lib.ListN.{length, take, drop, length-append}
@@ -12,7 +12,7 @@ use Rattle.frames.specs.Answer.{Written}
 use Rattle.frames.specs.Reader.{ends-in-fault}
 use Rattle.frames.specs.declared.Reader.{Reader}
 use Rattle.desk.specs.Answer.{Answers}
-use Rattle.terminal.specs.Terminal.{room, reply, Answered, LineOf, Lines}
+use Rattle.terminal.specs.Terminal.{room, reply, Answered, LineOf}
 use Rattle.terminal.specs.Longest.{pair-short}
 use Rattle.terminal.specs.Running.{Wrote, Ended}
 use Rattle.terminal.specs.Laying.{Roomy, Laid}

@@ -1,8 +1,8 @@
 -- The loop over a chunk: one law for each thing that `feed` reports.
-use mathlib.Core.Path.{_≡_, refl, sym, _∙_, ap}
+use mathlib.Core.Path.{_≡_, refl, _∙_, ap}
 use mathlib.Core.List.{List, [], _∷_, _++_, append-assoc, append-nil}
 use mathlib.Core.Logic.{_⊎_, inl, inr, ⊎-elim}
-use Prim.Native.Nat.{ℕ, _+_, _*_, _≤_, _<_}
+use Prim.Native.Nat.{ℕ, _+_, _≤_}
 use native.Mathlib.Omega.{arith}
 use lib.IntN.{ℤ}
 use lib.ListN.{length, take, drop, length-take}
@@ -15,7 +15,7 @@ use Rattle.frames.specs.declared.Fed.{Fed}
 use Rattle.frames.specs.declared.Fed.the-variants as fed
 use Rattle.terminal.specs.Longest.{longest-line, pair-short}
 use Rattle.terminal.specs.Going.{Gone, telling, reads, reads-more, reads-pair, reads-fault}
-use Rattle.terminal.specs.Running.{Wrote, Lent, Done, most-beyond}
+use Rattle.terminal.specs.Running.{Wrote, Lent, Done}
 use Rattle.terminal.specs.Laying.{Roomy, Laid}
 use Rattle.terminal.specs.declared.Session.{Session}
 use Rattle.terminal.specs.declared.Session.the-variants as session

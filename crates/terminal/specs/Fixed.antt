@@ -1,12 +1,11 @@
 -- The statements of the public calls fix their results and every byte lent: no second result and no second buffer satisfies them.
 use mathlib.Core.Path.{_≡_, refl, sym, _∙_, ap, ap₂}
 use mathlib.Core.List.{List, _++_}
-use Prim.Native.Nat.{ℕ, _≤_}
+use Prim.Native.Nat.{ℕ}
 use native.Mathlib.Omega.{arith}
 use lib.IntN.{ℤ}
 use lib.ListN.{length, take, drop, take-append-drop, length-take}
 use Rattle.frames.specs.Frames.{Event}
-use Rattle.terminal.specs.Terminal.{Lines}
 use Rattle.terminal.specs.Unique.{lines-unique}
 use Rattle.terminal.specs.Going.{goes, at-end}
 use Rattle.terminal.specs.Running.{Wrote, Runs, Finishes}

@@ -1,6 +1,6 @@
 -- What a chunk of an input does to a session and to the two buffers, and the events that it tells: for every session, every chunk and all
 -- buffers. A session that no run has made is read as it stands.
-use mathlib.Core.Path.{_≡_, refl, sym, _∙_, ap}
+use mathlib.Core.Path.{_≡_, refl, _∙_, ap}
 use mathlib.Core.Bool.{cond}
 use mathlib.Core.List.{List, [], _∷_, _++_}
 use Prim.Native.Nat.{ℕ, _+_}

@@ -1,5 +1,5 @@
 -- How long a line is at most, and that number 2 does not occur in a room of 310 bytes.
-use mathlib.Core.Path.{_≡_, refl, _∙_, ap}
+use mathlib.Core.Path.{_≡_, refl}
 use mathlib.Core.Logic.{inl, inr}
 use mathlib.Core.List.{List, [], _∷_}
 use Prim.Native.Nat.{ℕ, zero, suc, _+_, _*_, _≤_, _<_}
@@ -10,9 +10,9 @@ use Rattle.drawing.specs.Drawing.{corners}
 use Rattle.rules.specs.Cutting.{pieces}
 use Rattle.rules.specs.Centre.{layout-size}
 use Rattle.rules.specs.Count.{pieces-few, room-enough}
-use Rattle.frames.specs.Frames.{Event, pair, fault, line-feed, digits-of, line-of}
+use Rattle.frames.specs.Frames.{line-feed, digits-of, line-of}
 use Rattle.desk.specs.Answer.{InBoth, Alike, FirstFailed, asked, of-drawing, of-cutting, Answers}
-use Rattle.terminal.specs.Terminal.{room, reply, Answered, LineOf}
+use Rattle.terminal.specs.Terminal.{room, reply, Answered}
 
 -- two digits a byte, and the line feed: for the 5n-10 bytes of 64 corners, the first byte and the count of pieces
 abbrev pub longest-line : ℕ

@@ -2,13 +2,13 @@
 -- hang on what the room held before.
 use mathlib.Core.Path.{_≡_, refl, sym, _∙_, ap, ap₂}
 use mathlib.Core.List.{List, [], _∷_, _++_}
-use Prim.Native.Nat.{ℕ, zero, suc, _<_}
+use Prim.Native.Nat.{ℕ, zero, suc}
 use native.Mathlib.Omega.{arith}
 use lib.IntN.{ℤ}
 use lib.ListN.{length, take, drop}
 use lib.Seq.{take-at}
 use Rattle.frames.specs.Frames.{Event, pair, fault, events, fault-line}
-use Rattle.desk.specs.Answer.{Answers, Given, Refused}
+use Rattle.desk.specs.Answer.{Answers}
 use Rattle.desk.specs.Unique.{answer-unique}
 use Rattle.terminal.specs.Terminal.{room, reply, Answered, LineOf, Lines, Output}
 
@@ -62,7 +62,7 @@ answered-unique a b x y p q =
     ∙ rw (s .number-is, s .count-is, s .bytes-is, s .after-is) (ap (reply (q .number) (q .pieces)) (o .same))
     ∙ sym (q .replied)
 
-pub line-unique : (e : Event) (x y : List ℕ) → LineOf e x → LineOf e y → x ≡ y
+line-unique : (e : Event) (x y : List ℕ) → LineOf e x → LineOf e y → x ≡ y
 line-unique (pair a b) x y h k = answered-unique a b x y h k
 line-unique fault x y h k = h ∙ sym k
 

@@ -1,5 +1,5 @@
 -- However an input is cut into chunks, what the calls write, one after the other, is the output of the whole input.
-use mathlib.Core.Path.{_≡_, refl, sym, _∙_}
+use mathlib.Core.Path.{_≡_}
 use mathlib.Core.List.{List, [], _∷_, _++_, flatten, append-assoc}
 use Prim.Native.Nat.{ℕ}
 use lib.IntN.{ℤ}

@@ -1,6 +1,4 @@
 // The line of a pair.
-ghost use Prim.Native.Nat.{_+_, _≤_};
-ghost use lib.ListN.{length};
 ghost use Rattle.frames.specs.Frames.{pair};
 ghost use Rattle.terminal.specs.Laying.{Roomy, Laid};
 

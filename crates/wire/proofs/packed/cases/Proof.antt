@@ -1,7 +1,5 @@
 -- `wire::packed::cases`: each case moves on, so that there are no more of them than bytes.
-use mathlib.Core.Path.{_≡_}
-use Prim.Native.Nat.{_+_, _-_, _<_, _≤_}
-use native.Mathlib.Omega.{arith}
+use Prim.Native.Nat.{_-_, _≤_}
 use lib.ListN.{length}
 use borrow.Author.Needs.{needs}
 use Rattle.wire.proofs.packed.cases.Statement.{statement}

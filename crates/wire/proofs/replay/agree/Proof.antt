@@ -1,7 +1,5 @@
 -- `wire::replay::agree`: as far as both go.
-use mathlib.Core.Path.{_≡_}
-use Prim.Native.Nat.{_+_, _-_, _<_, _≤_}
-use native.Mathlib.Omega.{arith}
+use Prim.Native.Nat.{_+_, _-_, _≤_}
 use lib.ListN.{length}
 use borrow.Author.Needs.{needs}
 use Rattle.wire.proofs.replay.agree.Statement.{statement}

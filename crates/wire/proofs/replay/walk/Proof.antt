@@ -1,7 +1,6 @@
 -- `wire::replay::walk`: each chunk moves on in the input.
 use mathlib.Core.Path.{_≡_}
-use Prim.Native.Nat.{_+_, _-_, _<_, _≤_}
-use native.Mathlib.Omega.{arith}
+use Prim.Native.Nat.{_-_, _≤_}
 use lib.ListN.{length}
 use borrow.Author.Needs.{needs}
 use Rattle.wire.proofs.replay.walk.Statement.{statement}
