@@ -21,7 +21,7 @@ use Rattle.rules.specs.Answer.{table-first, table-refuses, table-count}
 use Rattle.rules.specs.Lays.{Seen, lays, lays-layout}
 use Rattle.cutting.specs.declared.Outcome.{Outcome}
 use Rattle.cutting.specs.declared.Outcome.the-variants.{Refused, NoCutting, Found}
-use Rattle.cutting.specs.Sizes.{row, none}
+use Rattle.cutting.specs.Sizes.{none}
 use Rattle.cutting.specs.Tables.{at2, Sees, May, Solved}
 use Rattle.cutting.specs.Choice.{choiceOf}
 use Rattle.cutting.specs.Told.{seen, put, tellOf, Open, Told, Veiled}
@@ -93,12 +93,12 @@ module _ {veil val road : List ℕ} {n : ℕ} (three : 3 ≤ n) (solved : Solved
   top-room h = omega (arith, tell-room (omega arith) (subst (Solved veil val road) (sym closing) solved) h)
 
 -- ---- the veil says what the cells say
-module _ (first second veil : List ℕ) (n : ℕ) (small : n ≤ row) (veiled : Veiled first second veil row) where
+module _ (first second veil : List ℕ) (n : ℕ) (veiled : Veiled first second veil n n) where
   both : (x y : ℕ) → x < n → y < n → Sees veil x y ↔ Sight first second x y
-  both x y p q = let s = veiled .at x y (omega arith) (omega arith) in (s .both, λ k. s .clear (k .0) (k .1))
+  both x y p q = let s = veiled .at x y p q in (s .both, λ k. s .clear (k .0) (k .1))
 
 pub answers : (n : ℕ) {first second veil val road before : List ℕ} (after : List ℕ) (r : Outcome) →
-    Served n first second before → Veiled first second veil row → Solved veil val road n →
+    Served n first second before → Veiled first second veil n n → Solved veil val road n →
     Told veil val road (n - 1) before after r → Answers n first second before after r
 unfolding put
 answers zero after r served veiled solved t = absurd (omega (arith, served .three))
@@ -110,7 +110,7 @@ answers (suc m) {first} {second} {veil} {val} {road} {before} after r served vei
     big = omega (arith, served .three)
 
     same : (x y : ℕ) → x < suc m → y < suc m → Sees veil x y ↔ Sight first second x y
-    same = both first second veil (suc m) (served .most) veiled
+    same = both first second veil (suc m) veiled
 
     tested : (x y : ℕ) → x < suc m → y < suc m → Seen (seen veil) x y ↔ Sight first second x y
     tested x y p q = (λ k. same x y p q .0 (test veil x y .1 k), λ k. test veil x y .0 (same x y p q .1 k))

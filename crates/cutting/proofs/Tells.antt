@@ -25,7 +25,7 @@ lays-append sees (S ∷ l) k =
     ap (λ r. length S ∷ centre sees S ∷ r) (ap (λ r. S ++ r) (lays-append sees l k) ∙ sym (append-assoc S (lays sees l) (lays sees k)))
 
 pub routes : {veil val road : List ℕ} {n x j : ℕ} → Solved veil val road n → j < n → x ≤ j → Routes val road x j
-routes s jn xj = record { val-size = s .val-size; road-size = s .road-size; last = omega (arith, s .small); centre-low = xj }
+routes s jn xj = record { val-size = s .val-size; road-size = omega (arith, s .road-size); last = omega (arith, s .small); centre-low = xj }
 
 -- ---- a range
 module _ {veil val road : List ℕ} {i j : ℕ} (o : Open veil val road i j) where

@@ -11,7 +11,7 @@ use Rattle.rules.specs.Table.{Way, Road, Head, grown}
 use Rattle.rules.specs.Telling.{tells}
 use Rattle.rules.specs.Lays.{centre, lays}
 use Rattle.cutting.specs.Sizes.{row, none}
-use Rattle.cutting.specs.Tables.{at2, Sees, May, Closes, Solved}
+use Rattle.cutting.specs.Tables.{at2, Sees, May, Closes, Veil, Solved}
 use Rattle.cutting.specs.Choice.{restOf, choiceOf}
 use Rattle.cutting.specs.declared.Outcome.{Outcome}
 use Rattle.cutting.specs.declared.Outcome.the-variants.{Refused, NoCutting, Found}
@@ -22,9 +22,10 @@ pub record Shade (a b z : ℕ) : Type 0 where
   pub both : z ≡ 0 → ¬ (a ≡ 0) × ¬ (b ≡ 0)
   pub veils : ¬ (z ≡ 0) → z ≡ none
 
--- the corners below t have their veils
-pub record Veiled (first second veil : List ℕ) (t : ℕ) : Type 0 where
-  pub at : (x y : ℕ) → x < row → y < t → Shade (at2 first x y) (at2 second x y) (at2 veil y x)
+-- the corners below t have their veils from the centres below n
+pub record Veiled (first second veil : List ℕ) (n t : ℕ) : Type 0 where
+  pub at : (x y : ℕ) → x < n → y < t → Shade (at2 first x y) (at2 second x y) (at2 veil y x)
+  pub veils : Veil veil
 
 -- ---- one piece
 -- `Sees`, computed

@@ -1,6 +1,5 @@
 -- `work`: the veil, the tables, the answer from them.
 use Rattle.cutting.proofs.Answers.{answers}
-use Rattle.cutting.proofs.Shading.{veiled-veil}
 use borrow.Author.Needs.{needs}
 use mathlib.Core.Path.{_∙_}
 use borrow.Author.Needs.{needs}
@@ -15,16 +14,16 @@ solve-requires c κs =
     let s = c .before .before .before .before .before .before .before .before .before .before .before .before .before
     .before .before .before .before .pre in
     let v = c .before .before .before .before .before .before .before .shade-all in
-    let k = v .kept .1 .1 .0 ∙ s .1 .veil-size in (
+    let t = s .1 .sized in (
       record {
         sized = record {
-          veil-size = k;
-          val-size = s .1 .val-size;
-          left-size = s .1 .left-size;
-          right-size = s .1 .right-size;
-          road-size = s .1 .road-size;
+          veil-size = v .kept .1 .1 .0 ∙ t .veil-size;
+          val-size = t .val-size;
+          left-size = t .left-size;
+          right-size = t .right-size;
+          road-size = t .road-size;
         };
-        veils = veiled-veil k (v .ensures);
+        veils = v .ensures .veils;
       },
       s .0 .most,
     )

@@ -82,7 +82,7 @@ returns c =
     let s = c .before .before .before .before .before .before .before .before .before .before .before .before .before
     .before .pre in
     let line = c .before .before .before .before .line in
-    done-line (s .0) (s .1) (line .ensures) (line .kept .1 .1 .1 .1 .0)
+    done-line (s .0) (s .2) (line .ensures) (line .kept .1 .1 .1 .1 .0)
 
 pub store-spec : {M : Type 1} → statement M
 store-spec =

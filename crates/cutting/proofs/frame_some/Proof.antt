@@ -1,11 +1,11 @@
--- `frame`: the new tables have their sizes.
-use Prim.Native.Nat.{ℕ}
-use Rattle.cutting.specs.Sizes.{cells, lanes}
+-- `frame_some`: the new tables are large enough.
+use Rattle.cutting.proofs.Fill.{tables-new}
+use Rattle.cutting.specs.Sizes.{some, lanes}
 use borrow.Author.Needs.{needs}
-use lib.ListN.{length-replicate}
+use native.Mathlib.Omega.{arith}
 use borrow.Author.Needs.{needs}
-use Rattle.cutting.proofs.frame.Statement.{statement}
-use Rattle.cutting.proofs.frame.Tie as tie
+use Rattle.cutting.proofs.frame_some.Statement.{statement}
+use Rattle.cutting.proofs.frame_some.Tie as tie
 
 slice-aggregate-work : tie.Need-slice-aggregate-work
 slice-aggregate-work c = search needs
@@ -24,10 +24,8 @@ slice-aggregate-work-5 c = search needs
 
 work-requires : tie.Need-work-requires
 work-requires c κs =
-    let pairs = length-replicate {0} {A = ℕ} cells 0 in (
-      c .before .before .before .before .before .before .before .before .before .pre,
-      record { veil-size = pairs; val-size = pairs; left-size = pairs; right-size = pairs; road-size = length-replicate {0} {A = ℕ} lanes 0 },
-    )
+    let s = c .before .before .before .before .before .before .before .before .before .pre in
+    (s .0, tables-new (lanes some) (omega (arith, s .1)))
 
 same-length : tie.Need-same-length
 same-length c = search needs
@@ -35,8 +33,8 @@ same-length c = search needs
 returns : tie.Need-returns
 returns c = search needs
 
-pub frame-spec : {M : Type 1} → statement M
-frame-spec =
+pub frame-some-spec : {M : Type 1} → statement M
+frame-some-spec =
     tie.close
     (tie.spec
     slice-aggregate-work
