@@ -164,7 +164,7 @@ fn star_pairs(n: usize) -> Vec<Pair> {
 fn big_rate(run: impl Fn(&[u8]) -> Vec<u8>) -> f64 {
     let input = include_bytes!("../../data/big.hex").repeat(BIG_TIMES);
     let pairs = input.iter().filter(|&&byte| byte == b'\n').count() / 2;
-    let mut pass = || {
+    let pass = || {
         let start = Instant::now();
         black_box(run(&input));
         start.elapsed().as_secs_f64()
