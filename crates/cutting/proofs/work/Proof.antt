@@ -2,7 +2,6 @@
 use Rattle.cutting.proofs.Answers.{answers}
 use borrow.Author.Needs.{needs}
 use mathlib.Core.Path.{_∙_}
-use borrow.Author.Needs.{needs}
 use Rattle.cutting.proofs.work.Statement.{statement}
 use Rattle.cutting.proofs.work.Tie as tie
 

@@ -4,7 +4,6 @@ use borrow.Author.Needs.{needs}
 use lib.ListN.{length-set}
 use mathlib.Core.Path.{_∙_}
 use native.Mathlib.Omega.{arith}
-use borrow.Author.Needs.{needs}
 use Rattle.cutting.proofs.telling.piece.Statement.{statement}
 use Rattle.cutting.proofs.telling.piece.Tie as tie
 

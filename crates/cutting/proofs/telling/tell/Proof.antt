@@ -3,7 +3,6 @@ use Rattle.cutting.proofs.Answers.{top-is, top-may, top-none, top-open,
 use borrow.Author.Needs.{needs}
 use mathlib.Core.Path.{refl, _∙_}
 use native.Mathlib.Omega.{arith}
-use borrow.Author.Needs.{needs}
 use Rattle.cutting.proofs.telling.tell.Statement.{statement}
 use Rattle.cutting.proofs.telling.tell.Tie as tie
 
