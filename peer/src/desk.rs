@@ -1,7 +1,8 @@
 //! The answer to a pair. 01, "What comes back".
 
-use crate::cutting::{self, Piece};
+use crate::cutting;
 use crate::drawing::{self, Corner, Judged, Sight};
+use crate::telling::Piece;
 
 /// The result: the number, the count of pieces and the count of bytes used.
 #[derive(Clone, Copy, Debug, PartialEq, Eq)]
@@ -21,13 +22,19 @@ pub fn answer(first: &[i32], second: &[i32], room: &mut [u8]) -> Outcome {
 
 /// The answer as another search gives it.
 pub fn answer_by(search: Search, first: &[i32], second: &[i32], room: &mut [u8]) -> Outcome {
-    let found = accept(first, second, room.len()).and_then(|(first, second)| {
-        let pieces = search(&drawing::sight(&first), &drawing::sight(&second));
-        pieces.ok_or(9)
-    });
-    match found {
+    match accept(first, second, room.len()) {
         Err(number) => refused(number),
-        Ok(pieces) => given(&pieces, room),
+        Ok((first, second)) => {
+            cut_by(search, &drawing::sight(&first), &drawing::sight(&second), room)
+        }
+    }
+}
+
+/// Number 0 or 9, as the search gives it; there is room enough.
+pub fn cut_by(search: Search, first: &Sight, second: &Sight, room: &mut [u8]) -> Outcome {
+    match search(first, second) {
+        Some(pieces) => given(&pieces, room),
+        None => refused(9),
     }
 }
 
@@ -66,7 +73,7 @@ fn sound(list: &[i32], out_of_range: u8) -> Result<Vec<Corner>, u8> {
 }
 
 /// Writes each piece as k, the centre, the k corners.
-pub fn given(pieces: &[Piece], room: &mut [u8]) -> Outcome {
+fn given(pieces: &[Piece], room: &mut [u8]) -> Outcome {
     let mut bytes = 0;
     for piece in pieces {
         let head = [piece.corners.len(), piece.centre];

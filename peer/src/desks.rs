@@ -1,62 +1,137 @@
-//! The seam between the trials and the desks that take part in them: the peer, and the product's
-//! library where it is linked.
+//! The calls that a desk's library has, and the trials of a library against the peer.
 
 use crate::cutting;
-use crate::desk::{self, Outcome};
-use crate::drawing::{self, Sight};
+use crate::desk::{self, needed_room, refused, Outcome};
+use crate::drawing::{self, Judged, Sight, FEWEST_CORNERS, MOST_CORNERS};
+use crate::pairs::calls::{self, Call};
 use crate::pairs::dice::Dice;
-use crate::pairs::{self, Call};
 
-/// A desk and its two stages. Each keeps sight in a form of its own.
+/// Cells stand in rows of so many, whatever the number of corners: cell i*64+j tells whether i
+/// sees j.
+pub const ROW: usize = 64;
+pub const CELLS: usize = ROW * ROW;
+
+/// A desk and its stages. Any lists, cells and rooms may be handed in.
 pub trait Desk {
-    type Sight;
-
     /// 01, "What comes back".
     fn answer(&self, first: &[i32], second: &[i32], room: &mut [u8]) -> Outcome;
 
-    /// The sight of all pairs of a sound drawing.
-    fn sight(&self, list: &[i32]) -> Self::Sight;
+    /// The number that a first drawing gets by itself: 0, 1, 3, 4 or 5.
+    fn judge(&self, list: &[i32]) -> u8;
 
-    /// Number 0 or 9 from the sight of two sound drawings; there is room enough.
-    fn cut(&self, first: &Self::Sight, second: &Self::Sight, room: &mut [u8]) -> Outcome;
+    /// Puts 1 or 0 into the cells of two corners. False where the list is no drawing within 01's
+    /// limits or the cells are fewer than `CELLS`: then nothing is written.
+    fn sight(&self, list: &[i32], cells: &mut [u8]) -> bool;
+
+    /// Number 0 or 9 from the sight of two drawings, where a cell that is not 0 says that i sees
+    /// j; or 1, where n, the cells or the room are not served.
+    fn cut(&self, n: usize, first: &[u8], second: &[u8], room: &mut [u8]) -> Outcome;
 }
 
 pub struct Peer;
 
 impl Desk for Peer {
-    type Sight = Sight;
-
     fn answer(&self, first: &[i32], second: &[i32], room: &mut [u8]) -> Outcome {
         desk::answer(first, second, room)
     }
 
-    fn sight(&self, list: &[i32]) -> Sight {
-        drawing::sight(&drawing::corners(list))
+    fn judge(&self, list: &[i32]) -> u8 {
+        if !shaped(list) {
+            return 1;
+        }
+        match drawing::judge(&drawing::corners(list)) {
+            Judged::Sound => 0,
+            Judged::OutOfRange => 3,
+            Judged::NotSimple => 4,
+            Judged::NotAnticlockwise => 5,
+        }
     }
 
-    fn cut(&self, first: &Sight, second: &Sight, room: &mut [u8]) -> Outcome {
-        match cutting::first_smallest(first, second) {
-            Some(pieces) => desk::given(&pieces, room),
-            None => desk::refused(9),
+    fn sight(&self, list: &[i32], cells: &mut [u8]) -> bool {
+        let corners = drawing::corners(list);
+        if cells.len() < CELLS || !shaped(list) || !corners.iter().all(drawing::in_range) {
+            return false;
         }
+        let sight = drawing::sight(&corners);
+        for i in 0..corners.len() {
+            for j in 0..corners.len() {
+                cells[i * ROW + j] = u8::from(sight.sees(i, j));
+            }
+        }
+        true
+    }
+
+    fn cut(&self, n: usize, first: &[u8], second: &[u8], room: &mut [u8]) -> Outcome {
+        let corners = FEWEST_CORNERS..=MOST_CORNERS;
+        let cells = first.len().min(second.len());
+        if !corners.contains(&n) || cells < CELLS || room.len() < needed_room(n) {
+            return refused(1);
+        }
+        let [first, second] =
+            [first, second].map(|cells| Sight::from_cells(n, |i, j| cells[i * ROW + j] != 0));
+        desk::cut_by(cutting::first_smallest, &first, &second, room)
     }
 }
 
-/// Makes calls with any lists and any room to the desk and to the peer, and tells the first in
-/// which the result or a byte of the room differs.
-pub fn compare_calls(desk: &impl Desk, seed: u64, calls: usize, most: usize) -> Result<(), String> {
+/// Whether a list has an even length and as many corners as a drawing may have.
+fn shaped(list: &[i32]) -> bool {
+    list.len().is_multiple_of(2) && (FEWEST_CORNERS..=MOST_CORNERS).contains(&(list.len() / 2))
+}
+
+/// What came back from a call, and what was lent to it, afterwards.
+#[derive(Debug, PartialEq, Eq)]
+struct Reply {
+    said: Said,
+    lent: Vec<u8>,
+}
+
+#[derive(Debug, PartialEq, Eq)]
+enum Said {
+    Outcome(Outcome),
+    Number(u8),
+    Served(bool),
+}
+
+/// Makes the call.
+fn reply(desk: &impl Desk, call: &Call) -> Reply {
+    let mut lent = call.lent().to_vec();
+    let said = match call {
+        Call::Answer { pair, .. } => {
+            Said::Outcome(desk.answer(&pair.first, &pair.second, &mut lent))
+        }
+        Call::Judge { list } => Said::Number(desk.judge(list)),
+        Call::Sight { list, .. } => Said::Served(desk.sight(list, &mut lent)),
+        Call::Cut { n, first, second, .. } => Said::Outcome(desk.cut(*n, first, second, &mut lent)),
+    };
+    Reply { said, lent }
+}
+
+/// Makes the call to the desk and to the peer, and tells whether what came back or a byte that was
+/// lent differs.
+pub fn compare_call(desk: &impl Desk, call: &Call) -> Result<(), String> {
+    let (theirs, ours) = (reply(desk, call), reply(&Peer, call));
+    if theirs == ours {
+        Ok(())
+    } else {
+        Err(format!("the calls differ for\n{call:?}\ndesk: {theirs:?}\npeer: {ours:?}"))
+    }
+}
+
+/// Makes that many rounds of calls, one of each kind or more a round, with any lists, cells and
+/// rooms, and counts the calls.
+pub fn compare_calls(
+    desk: &impl Desk,
+    seed: u64,
+    rounds: usize,
+    most: usize,
+) -> Result<usize, String> {
     let mut dice = Dice::new(seed);
-    for _ in 0..calls {
-        let Call { pair, room } = pairs::call(&mut dice, most);
-        let (mut theirs, mut ours) = (room.clone(), room.clone());
-        let their_outcome = desk.answer(&pair.first, &pair.second, &mut theirs);
-        let our_outcome = desk::answer(&pair.first, &pair.second, &mut ours);
-        if their_outcome != our_outcome || theirs != ours {
-            return Err(format!(
-                "seed {seed}\n{pair:?}\nroom before {room:?}\n\
-                 desk {their_outcome:?} {theirs:?}\npeer {our_outcome:?} {ours:?}"
-            ));
+    let mut made = 0;
+    for _ in 0..rounds {
+        for call in calls::round(&mut dice, most) {
+            compare_call(desk, &call)?;
+            made += 1;
         }
     }
-    Ok(())
+    Ok(made)
 }

@@ -140,6 +140,11 @@ pub struct Sight {
 }
 
 impl Sight {
+    /// The sight in which i sees j when the rule says so: any table, as no drawing need have it.
+    pub fn from_cells(n: usize, rule: impl Fn(usize, usize) -> bool) -> Sight {
+        Sight { n, cells: (0..n * n).map(|at| rule(at / n, at % n)).collect() }
+    }
+
     /// The sight in which i sees j when the rule says so of i <= j; sight goes both ways.
     pub fn from_rule(n: usize, mut rule: impl FnMut(usize, usize) -> bool) -> Sight {
         let mut cells = vec![false; n * n];

@@ -1,8 +1,8 @@
 //! The same answer as `cutting` for few corners, directly from the definitions: every set of
 //! uncrossed cuts, its regions, their centres, its told run. 01, "Cuttings".
 
-use crate::cutting::{lowest_centre, Piece};
 use crate::drawing::Sight;
+use crate::telling::{lowest_centre, Piece};
 
 /// Beyond this many corners there are too many cuttings to try.
 pub const MOST_CORNERS: usize = 10;

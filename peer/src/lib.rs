@@ -7,14 +7,16 @@
 //! program on them, and `desks` is the seam for another library. `show` draws pairs with a
 //! program's answers.
 
+pub mod bench;
 pub mod cutting;
 pub mod desk;
 pub mod desks;
 pub mod drawing;
 pub mod exhaustive;
 pub mod frames;
-#[cfg(feature = "linked")]
-pub mod linked;
+pub mod library;
 pub mod pairs;
 pub mod program;
+pub mod rival;
 pub mod show;
+pub mod telling;

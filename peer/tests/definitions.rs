@@ -80,7 +80,7 @@ fn in_or_on(drawing: &[Corner], point: &Point) -> bool {
 fn sight_is_a_clear_line_inside() {
     let mut dice = Dice::new(3);
     let mut seen = [0, 0];
-    for _ in 0..700 {
+    for _ in 0..900 {
         let (shape, n) = (dice.pick(&SHAPES), 4 + dice.below(11));
         let drawing = shapes::drawing(&mut dice, shape, n);
         assert_eq!(judge(&drawing), Judged::Sound);

@@ -1,4 +1,4 @@
-//! The search that tries every cutting, and the one in time n^4 against it.
+//! The search that tries every cutting, and the two in time n^4 against it.
 
 use peer::cutting;
 use peer::desk;
@@ -6,6 +6,7 @@ use peer::drawing::Sight;
 use peer::exhaustive;
 use peer::pairs::dice::Dice;
 use peer::pairs::{pair_up_to, Kind};
+use peer::rival;
 
 /// The sets of uncrossed diagonals of a convex polygon are counted by Schröder's numbers.
 #[test]
@@ -76,10 +77,44 @@ fn the_searches_agree_on_any_sight() {
         }
         let first = some_sight(&mut dice, n, &lines, of_ten);
         let second = some_sight(&mut dice, n, &lines, 7);
-        let found = cutting::first_smallest(&first, &second);
-        let by_trying = exhaustive::first_smallest(&first, &second);
-        assert_eq!(found, by_trying, "{first:?} {second:?}");
-        pieces[found.map_or(0, |pieces| pieces.len())] += 1;
+        pieces[agreed(&first, &second)] += 1;
     }
     assert!(pieces[..4].iter().all(|&count| count > 50), "{pieces:?}");
+}
+
+/// One corner may see another that does not see it, and need not see itself.
+#[test]
+fn the_searches_agree_on_any_cells() {
+    let mut dice = Dice::new(13);
+    let mut pieces = [0; 10];
+    for _ in 0..6000 {
+        let (n, of_ten) = (3 + dice.below(7), dice.pick(&[5, 8, 9]));
+        let mut cells = || -> Vec<bool> { (0..n * n).map(|_| dice.below(10) < of_ten).collect() };
+        let [first, second] = [cells(), cells()];
+        let sight = |cells: Vec<bool>| Sight::from_cells(n, |i, j| cells[i * n + j]);
+        pieces[agreed(&sight(first), &sight(second))] += 1;
+    }
+    assert!(pieces[..4].iter().all(|&count| count > 50), "{pieces:?}");
+}
+
+/// The count of pieces that all searches find, with the same cutting; 0 for none.
+fn agreed(first: &Sight, second: &Sight) -> usize {
+    let found = exhaustive::first_smallest(first, second);
+    assert_eq!(cutting::first_smallest(first, second), found, "{first:?} {second:?}");
+    assert_eq!(rival::first_smallest(first, second), found, "{first:?} {second:?}");
+    found.map_or(0, |pieces| pieces.len())
+}
+
+#[test]
+fn the_rival_agrees_on_many_corners() {
+    let mut dice = Dice::new(14);
+    for _ in 0..600 {
+        let pair = pair_up_to(&mut dice, Kind::Mixed, 64);
+        let mut rooms = [[0xAA; 310]; 2];
+        let [peers, rivals] = &mut rooms;
+        let outcome = desk::answer(&pair.first, &pair.second, peers);
+        let search = rival::first_smallest;
+        assert_eq!(desk::answer_by(search, &pair.first, &pair.second, rivals), outcome);
+        assert_eq!(peers, rivals, "{pair:?}");
+    }
 }

@@ -2,9 +2,10 @@
 //! faults put into it.
 
 use peer::desk::{self, Outcome};
-use peer::desks::{compare_calls, Desk};
-use peer::drawing::{judge, Judged};
+use peer::desks::{compare_calls, Desk, Peer, ROW};
+use peer::drawing::{judge, Judged, Sight};
 use peer::exhaustive;
+use peer::pairs::calls::{self, Call};
 use peer::pairs::dice::Dice;
 use peer::pairs::shapes::{self, SHAPES};
 use std::process::{Command, Output};
@@ -56,36 +57,112 @@ fn generated_frames_are_those_of_the_seed() {
     assert_eq!(generate("malformed", "3"), generate("malformed", "3"));
 }
 
-/// The desk by the other search. It may spoil the byte behind those used: when it gives a cutting
-/// (`Some(false)`) or when it refuses (`Some(true)`).
+/// Where a desk may be wrong.
+#[derive(Clone, Copy, Debug, PartialEq, Eq)]
+enum Fault {
+    /// A byte of the room behind those used, or one where there are none.
+    AnswerGiven,
+    AnswerRefused,
+    /// The number of a drawing.
+    Judged,
+    /// A cell of two corners, one of no corners, one where nothing is served, and the result.
+    Seen,
+    KeptBeside,
+    KeptRefused,
+    Served,
+    /// The same for a cutting as for an answer.
+    CutGiven,
+    CutRefused,
+}
+
+/// The desk by the search that tries every cutting, with a fault in it or without.
 struct Other {
-    spoils: Option<bool>,
+    fault: Option<Fault>,
+}
+
+impl Other {
+    /// Spoils the byte if this is the fault.
+    fn spoil(&self, fault: Fault, byte: Option<&mut u8>) {
+        if let Some(byte) = byte.filter(|_| self.fault == Some(fault)) {
+            *byte ^= 1;
+        }
+    }
+
+    fn spoil_room(&self, [given, refused]: [Fault; 2], outcome: &Outcome, room: &mut [u8]) {
+        let fault = if outcome.number == 0 { given } else { refused };
+        self.spoil(fault, room.get_mut(outcome.bytes));
+    }
 }
 
 impl Desk for Other {
-    type Sight = ();
-
     fn answer(&self, first: &[i32], second: &[i32], room: &mut [u8]) -> Outcome {
         let outcome = desk::answer_by(exhaustive::first_smallest, first, second, room);
-        if self.spoils == Some(outcome.number != 0) && outcome.bytes < room.len() {
-            room[outcome.bytes] ^= 1;
-        }
+        self.spoil_room([Fault::AnswerGiven, Fault::AnswerRefused], &outcome, room);
         outcome
     }
 
-    fn sight(&self, _: &[i32]) {}
+    fn judge(&self, list: &[i32]) -> u8 {
+        let mut number = Peer.judge(list);
+        self.spoil(Fault::Judged, Some(&mut number));
+        number
+    }
 
-    fn cut(&self, _: &(), _: &(), _: &mut [u8]) -> Outcome {
-        desk::refused(9)
+    fn sight(&self, list: &[i32], cells: &mut [u8]) -> bool {
+        let served = Peer.sight(list, cells);
+        if served {
+            self.spoil(Fault::Seen, cells.get_mut(ROW + 2));
+            self.spoil(Fault::KeptBeside, cells.last_mut());
+        } else {
+            self.spoil(Fault::KeptRefused, cells.first_mut());
+        }
+        served != (self.fault == Some(Fault::Served))
+    }
+
+    fn cut(&self, n: usize, first: &[u8], second: &[u8], room: &mut [u8]) -> Outcome {
+        let mut outcome = Peer.cut(n, first, second, room);
+        if outcome.number == 0 {
+            let sights = [first, second].map(|c| Sight::from_cells(n, |i, j| c[i * ROW + j] != 0));
+            let search = exhaustive::first_smallest;
+            outcome = desk::cut_by(search, &sights[0], &sights[1], room);
+        }
+        self.spoil_room([Fault::CutGiven, Fault::CutRefused], &outcome, room);
+        outcome
     }
 }
 
 #[test]
 fn calls_compare_every_byte_lent() {
-    assert_eq!(compare_calls(&Other { spoils: None }, 1, 2000, 8), Ok(()));
-    for refused in [false, true] {
-        assert!(compare_calls(&Other { spoils: Some(refused) }, 1, 2000, 8).is_err());
+    let compare = |fault: Option<Fault>| compare_calls(&Other { fault }, 1, 600, 8);
+    assert_eq!(compare(None), Ok(4200));
+    for fault in [
+        Fault::AnswerGiven,
+        Fault::AnswerRefused,
+        Fault::Judged,
+        Fault::Seen,
+        Fault::KeptBeside,
+        Fault::KeptRefused,
+        Fault::Served,
+        Fault::CutGiven,
+        Fault::CutRefused,
+    ] {
+        assert!(compare(Some(fault)).is_err(), "{fault:?}");
     }
+}
+
+/// The cuttings that are asked for, with how many pieces they end.
+#[test]
+fn calls_cut_and_refuse() {
+    let mut dice = Dice::new(6);
+    let mut numbers = [0; 10];
+    let mut most = 0;
+    for call in (0..300).flat_map(|_| calls::round(&mut dice, 64)) {
+        if let Call::Cut { n, first, second, mut room } = call {
+            let outcome = Peer.cut(n, &first, &second, &mut room);
+            numbers[usize::from(outcome.number)] += 1;
+            most = most.max(outcome.pieces);
+        }
+    }
+    assert!([0, 1, 9].iter().all(|&k| numbers[k] > 50) && most > 10, "{numbers:?} {most}");
 }
 
 #[test]

@@ -8,6 +8,8 @@ ghost use Rattle.drawing.specs.Tells.{Tells};
 ghost use Rattle.desk.specs.Answer.{Alike, Answers};
 ghost use Rattle.desk.specs.Parts.{Judges, Ready, Looks};
 
+pub mod stages;
+
 const FEWEST_CORNERS: usize = 3;
 
 const MOST_CORNERS: usize = 64;

@@ -1,31 +1,41 @@
-//! compare PROGRAM [SECONDS] [SEED] [-- WRAPPER...]: feeds generated inputs to the program (run as
-//! `WRAPPER... PROGRAM`) and to the peer until the time is over, and stops at the first difference.
+//! compare PROGRAM [SECONDS] [SEED] [--library OBJECT] [-- WRAPPER...]: feeds generated inputs to
+//! the program (run as `WRAPPER... PROGRAM`) and to the peer until the time is over, makes generated
+//! calls to the product's library in the shared object, and stops at the first difference.
 
-use peer::drawing::{corners, in_range, judge, Judged};
+use peer::desks::compare_calls;
+use peer::drawing::{corners, in_range, judge, Judged, MOST_CORNERS};
 use peer::frames;
+use peer::library::Library;
 use peer::pairs::dice::Dice;
 use peer::pairs::{list, pair, rules, streams, Kind, Pair};
 use peer::program::{Program, Run};
+use std::path::{Path, PathBuf};
 use std::process::ExitCode;
 use std::time::{Duration, Instant};
 
 /// How many pairs of its own a batch has; those that demand 3 derives from them come on top.
 const PAIRS: usize = 600;
-/// How many calls to the linked library follow each batch.
-#[cfg(feature = "linked")]
-const CALLS: usize = 600;
+/// How many rounds of calls to the library follow each batch.
+const ROUNDS: usize = 300;
 /// How many bytes more than the right ones are read of an output.
 const EXCESS: usize = 1000;
 
-const USAGE: &str = "compare PROGRAM [SECONDS] [SEED] [-- WRAPPER...]";
+const USAGE: &str = "compare PROGRAM [SECONDS] [SEED] [--library OBJECT] [-- WRAPPER...]";
 
 fn main() -> ExitCode {
     let words: Vec<String> = std::env::args().skip(1).collect();
-    let Some((program, seconds, seed)) = arguments(words) else {
+    let Some(Arguments { program, library, seconds, seed }) = arguments(words) else {
         eprintln!("{USAGE}");
         return ExitCode::from(2);
     };
-    match compare(&program, seconds, seed) {
+    let library = match library.map(|path| loaded(&path)).transpose() {
+        Ok(library) => library,
+        Err(error) => {
+            eprintln!("compare: {error}");
+            return ExitCode::from(2);
+        }
+    };
+    match compare(&program, library.as_ref(), seconds, seed) {
         Ok(totals) => {
             println!("{}", totals.line(seed));
             ExitCode::SUCCESS
@@ -37,10 +47,23 @@ fn main() -> ExitCode {
     }
 }
 
-/// The program with its wrapper, the seconds and the seed.
-fn arguments(mut words: Vec<String>) -> Option<(Program, u64, u64)> {
+struct Arguments {
+    /// The program with its wrapper.
+    program: Program,
+    library: Option<PathBuf>,
+    seconds: u64,
+    seed: u64,
+}
+
+fn arguments(mut words: Vec<String>) -> Option<Arguments> {
     let end = words.iter().position(|word| word == "--");
     let mut wrapper = words.split_off(end.unwrap_or(words.len()));
+    let library = match words.iter().position(|word| word == "--library") {
+        Some(at) => {
+            words.drain(at..(at + 2).min(words.len())).nth(1).map(PathBuf::from).map(Some)?
+        }
+        None => None,
+    };
     if words.is_empty() || words.len() > 3 {
         return None;
     }
@@ -48,7 +71,14 @@ fn arguments(mut words: Vec<String>) -> Option<(Program, u64, u64)> {
     let (seconds, seed) = (number(1, 100)?, number(2, 1)?);
     wrapper.push(words[0].clone());
     let command = wrapper.into_iter().skip(usize::from(end.is_some())).collect();
-    Some((Program { command }, seconds, seed))
+    Some(Arguments { program: Program { command }, library, seconds, seed })
+}
+
+/// A library with all its calls.
+fn loaded(path: &Path) -> Result<Library, String> {
+    let library = Library::load(path)?;
+    let missing = || format!("{}: no iravikkon_judge", path.display());
+    library.judges().then_some(library).ok_or_else(missing)
 }
 
 #[derive(Default)]
@@ -70,19 +100,26 @@ impl Totals {
         let Totals { numbers, streams, laws, calls } = self;
         format!(
             "same answers: {pairs} pairs (numbers 0 to 9: {numbers:?}), {streams} malformed inputs, \
-             {laws} cases of demand 3, {calls} calls of the linked library, seed {seed}"
+             {laws} cases of demand 3, {calls} calls of the library, seed {seed}"
         )
     }
 }
 
-fn compare(program: &Program, seconds: u64, seed: u64) -> Result<Totals, String> {
+fn compare(
+    program: &Program,
+    library: Option<&Library>,
+    seconds: u64,
+    seed: u64,
+) -> Result<Totals, String> {
     let end = Instant::now() + Duration::from_secs(seconds);
     let mut totals = Totals::default();
     for seed in seed.. {
         let again = |found: String| format!("{found}\nseed {seed}");
         compare_batch(program, seed, &mut totals).map_err(again)?;
         compare_streams(program, seed, &mut totals).map_err(again)?;
-        compare_linked(seed, &mut totals).map_err(again)?;
+        if let Some(library) = library {
+            totals.calls += compare_calls(library, seed, ROUNDS, MOST_CORNERS).map_err(again)?;
+        }
         if Instant::now() >= end {
             break;
         }
@@ -164,18 +201,6 @@ fn compare_streams(program: &Program, seed: u64, totals: &mut Totals) -> Result<
         complaint(&run)?;
         totals.streams += 1;
     }
-    Ok(())
-}
-
-/// Calls with any lists and any room, where the product's library is linked.
-#[cfg(feature = "linked")]
-fn compare_linked(seed: u64, totals: &mut Totals) -> Result<(), String> {
-    totals.calls += CALLS;
-    peer::desks::compare_calls(&peer::linked::Linked, seed, CALLS, 64)
-}
-
-#[cfg(not(feature = "linked"))]
-fn compare_linked(_: u64, _: &mut Totals) -> Result<(), String> {
     Ok(())
 }
 

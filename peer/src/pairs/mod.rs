@@ -1,11 +1,13 @@
 //! Drawings, pairs, calls and inputs to try, made from a seed.
 
+pub mod calls;
 pub mod damage;
 pub mod dice;
 pub mod partners;
 pub mod rules;
 pub mod shapes;
 pub mod streams;
+pub mod traced;
 
 use crate::drawing::{Corner, FEWEST_CORNERS, MOST_CORNERS};
 use crate::frames::{frame, FIRST, HIGHEST, LOWEST, SECOND};
@@ -55,7 +57,7 @@ pub enum Kind {
 }
 
 /// The kinds whose pairs can be told in frames, by name.
-pub const KINDS: [(&str, Kind); 9] = [
+pub const KINDS: [(&str, Kind); 11] = [
     ("grid", Kind::Shaped(Shape::Grid)),
     ("wide", Kind::Shaped(Shape::Wide)),
     ("spiral", Kind::Shaped(Shape::Spiral)),
@@ -63,6 +65,8 @@ pub const KINDS: [(&str, Kind); 9] = [
     ("rectilinear", Kind::Shaped(Shape::Rectilinear)),
     ("star", Kind::Shaped(Shape::Star)),
     ("convex", Kind::Shaped(Shape::Convex)),
+    ("blob", Kind::Shaped(Shape::Blob)),
+    ("limb", Kind::Shaped(Shape::Limb)),
     ("damaged", Kind::Damaged),
     ("mixed", Kind::Mixed),
 ];
@@ -109,19 +113,4 @@ fn sound(dice: &mut Dice, shape: Shape, most: usize) -> [Vec<Corner>; 2] {
         let stretched = dice.once_in(8).then(|| rules::stretched(dice, &drawing));
         rules::renumbered(&stretched.flatten().unwrap_or(drawing), k)
     })
-}
-
-/// Two lists and the room lent, which is often just enough or just too small.
-pub struct Call {
-    pub pair: Pair,
-    pub room: Vec<u8>,
-}
-
-pub fn call(dice: &mut Dice, most: usize) -> Call {
-    let kind = dice.pick(&[Kind::Mixed, Kind::Mixed, Kind::Mixed, Kind::Lists]);
-    let pair = pair_up_to(dice, kind, most);
-    let needed = (5 * (pair.first.len() / 2)).saturating_sub(10);
-    let sizes = [needed, needed, needed + 1, needed.saturating_sub(1), 0, 310, 1000];
-    let room = dice.pick(&sizes);
-    Call { pair, room: (0..room).map(|_| dice.below(256) as u8).collect() }
 }

@@ -1,6 +1,7 @@
 //! Sound drawings of many shapes. Each shape is asked for n corners and gives just so many.
 
 use super::dice::Dice;
+use super::traced;
 use crate::drawing::{
     doubled_area, in_range, judge, share_a_point, share_only, turn, Corner, Judged, FARTHEST,
 };
@@ -17,9 +18,13 @@ pub enum Shape {
     Rectilinear,
     Star,
     Convex,
+    /// Something round, traced from a photograph.
+    Blob,
+    /// An arm or a tail, traced from a photograph.
+    Limb,
 }
 
-pub const SHAPES: [Shape; 7] = [
+pub const SHAPES: [Shape; 9] = [
     Shape::Grid,
     Shape::Wide,
     Shape::Spiral,
@@ -27,9 +32,11 @@ pub const SHAPES: [Shape; 7] = [
     Shape::Rectilinear,
     Shape::Star,
     Shape::Convex,
+    Shape::Blob,
+    Shape::Limb,
 ];
 
-/// A sound drawing of the shape with n corners, 3 to 64.
+/// A sound drawing of the shape with n corners, at least 3.
 pub fn drawing(dice: &mut Dice, shape: Shape, n: usize) -> Vec<Corner> {
     loop {
         let shaped = match shape {
@@ -40,6 +47,8 @@ pub fn drawing(dice: &mut Dice, shape: Shape, n: usize) -> Vec<Corner> {
             Shape::Rectilinear => rectilinear(dice, n),
             Shape::Star => star(dice, n),
             Shape::Convex => convex(dice, n),
+            Shape::Blob => Some(traced::blob(dice, n)),
+            Shape::Limb => Some(traced::limb(dice, n)),
         };
         if let Some(shaped) = shaped {
             if judge(&shaped) == Judged::Sound {

@@ -1,7 +1,7 @@
 //! The colours of pieces: a dozen that stay apart for people who do not tell red from green, or
 //! blue from yellow, and each with a dark one for what is drawn on it.
 
-use crate::cutting::Piece;
+use crate::telling::Piece;
 
 pub struct Colour {
     pub fill: &'static str,

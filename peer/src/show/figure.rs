@@ -7,8 +7,8 @@ use super::marks::{Marks, Meeting};
 use super::plane::{distance, point, roomiest, sides, Point, Scale};
 use super::svg;
 use super::words::{letters, spans};
-use crate::cutting::Piece;
 use crate::drawing::{doubled_area, Corner};
+use crate::telling::Piece;
 
 /// The space about a drawing in which its labels stand.
 pub const MARGIN: f64 = 24.0;

@@ -7,8 +7,8 @@ use super::plane::{point, Point, Scale};
 use super::reading::{self, Answer, Drawing, Frames};
 use super::svg;
 use super::words::{self, counted, grouped, wrapped};
-use crate::cutting::Piece;
 use crate::drawing::Corner;
+use crate::telling::Piece;
 
 /// The most pairs on one page, so that a page stays one that a browser opens.
 pub const MOST_PAIRS: usize = 100;

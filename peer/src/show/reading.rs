@@ -2,9 +2,9 @@
 //! the wire". Reading goes as far as it can and says in words why it went no further.
 
 use super::words::grouped;
-use crate::cutting::Piece;
 use crate::drawing::{corners, Corner, MOST_CORNERS};
 use crate::frames::{FIRST, SECOND};
+use crate::telling::Piece;
 
 pub type Drawing = Vec<Corner>;
 

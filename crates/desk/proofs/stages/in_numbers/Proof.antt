@@ -1,8 +1,8 @@
--- `stages::in_numbers` meets its contract.
+-- `desk::stages::in_numbers` meets its contract.
 use mathlib.Core.Path.{refl}
 use borrow.Author.Needs.{needs}
-use Rattle.stages.proofs.in_numbers.Statement.{statement}
-use Rattle.stages.proofs.in_numbers.Tie as tie
+use Rattle.desk.proofs.stages.in_numbers.Statement.{statement}
+use Rattle.desk.proofs.stages.in_numbers.Tie as tie
 
 enum-told : tie.Need-enum-told
 enum-told c = search needs

@@ -1,7 +1,7 @@
--- `stages::iravikkon_cut` meets its contract.
+-- `desk::stages::iravikkon_cut` meets its contract.
 use borrow.Author.Needs.{needs}
-use Rattle.stages.proofs.iravikkon_cut.Statement.{statement}
-use Rattle.stages.proofs.iravikkon_cut.Tie as tie
+use Rattle.desk.proofs.stages.iravikkon_cut.Statement.{statement}
+use Rattle.desk.proofs.stages.iravikkon_cut.Tie as tie
 
 cut-requires : tie.Need-cut-requires
 cut-requires c κs = search needs

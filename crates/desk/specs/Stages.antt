@@ -1,13 +1,29 @@
--- The promise of `iravikkon_cut`: that of `cutting::cut`, its outcome told in numbers. (`iravikkon_sight` has the promise of `drawing::sight`.)
-use mathlib.Core.Path.{_≡_, sym, subst, _∙_}
+-- The promises of the stages under C names. They are those of `drawing::judge` and `cutting::cut`, with the outcome told in 01's numbers.
+-- (`iravikkon_sight` has the promise of `drawing::sight` as it stands.)
+use mathlib.Core.Path.{_≡_, sym, ap, subst, _∙_}
 use mathlib.Core.List.{List}
 use Prim.Native.Nat.{ℕ}
 use native.Mathlib.Omega.{arith}
+use lib.IntN.{ℤ}
+use Rattle.drawing.specs.Judgement.{Judgement, first-number}
+use Rattle.drawing.specs.Judging.{judge-unique}
+use Rattle.drawing.specs.declared.Judged.{Judged}
 use Rattle.cutting.specs.declared.Outcome.{Outcome}
 use Rattle.cutting.specs.declared.Outcome.the-variants.{Refused, NoCutting, Found}
 use Rattle.cutting.specs.Answer.{Answers, cut-unique}
 
--- the numbers of each outcome: 01's 0 and 9, and 1 where the call was not served
+-- ---- the judgement: 01's number for a first drawing
+pub record JudgesFirst (xy : List ℤ) (number : ℕ) : Type 0 where
+  pub judged : Judged
+  pub judgement : Judgement xy judged
+  pub says : number ≡ first-number judged
+
+-- no second number
+pub judges-unique : (xy : List ℤ) (k k′ : ℕ) → JudgesFirst xy k → JudgesFirst xy k′ → k ≡ k′
+judges-unique xy k k′ x y =
+    x .says ∙ ap first-number (judge-unique (x .judged) (y .judged) (x .judgement) (y .judgement)) ∙ sym (y .says)
+
+-- ---- the cutting: 01's 0 and 9, and 1 where the call was not served
 abbrev pub Says : Outcome → ℕ → ℕ → ℕ → Type 0
 Says Refused number count bytes = (number ≡ 1) × (count ≡ 0) × (bytes ≡ 0)
 Says NoCutting number count bytes = (number ≡ 9) × (count ≡ 0) × (bytes ≡ 0)

@@ -1,0 +1,60 @@
+//! The kinds of pairs that are measured.
+
+use crate::drawing::{Corner, MOST_CORNERS};
+use crate::pairs::dice::Dice;
+use crate::pairs::shapes::{self, Shape};
+use crate::pairs::Pair;
+
+const SEED: u64 = 1;
+
+/// How many pairs a kind has that is drawn by chance.
+const PAIRS: usize = 16;
+
+/// A kind of pairs: its name, and its pairs of n corners.
+pub type Kind = (&'static str, fn(usize) -> Vec<Pair>);
+
+pub const KINDS: [Kind; 9] = [
+    ("convex with itself", convex),
+    ("spiral, sheared copy", spiral),
+    ("two stars", two_stars),
+    ("star with itself", |n| with_itself(Shape::Star, n)),
+    ("comb with itself", |n| with_itself(Shape::Comb, n)),
+    ("squared paper", |n| with_itself(Shape::Rectilinear, n)),
+    ("traced blob", |n| with_itself(Shape::Blob, n)),
+    ("traced limb", |n| with_itself(Shape::Limb, n)),
+    ("grown by chance", |n| with_itself(Shape::Wide, n)),
+];
+
+/// The numbers of corners that are measured.
+pub fn sizes() -> impl Iterator<Item = usize> {
+    [8, 16, 32, 64, 128].into_iter().filter(|&n| n <= MOST_CORNERS)
+}
+
+/// Corners on a parabola: every corner sees every other.
+fn convex(n: usize) -> Vec<Pair> {
+    let drawing: Vec<Corner> = (0..n as i64).map(|t| Corner::at(t, t * t)).collect();
+    vec![Pair::of(&[drawing.clone(), drawing])]
+}
+
+fn spiral(n: usize) -> Vec<Pair> {
+    let drawing = shapes::spiral(n, 2, 4);
+    let sheared = drawing.iter().map(|c| Corner::at(c.x + c.y, c.y));
+    vec![Pair::of(&[drawing.clone(), sheared.collect()])]
+}
+
+/// Two star-shaped drawings have next to no sight in common.
+fn two_stars(n: usize) -> Vec<Pair> {
+    let mut dice = Dice::new(SEED);
+    let mut pair = || Pair::of(&[0, 1].map(|_| shapes::drawing(&mut dice, Shape::Star, n)));
+    (0..PAIRS).map(|_| pair()).collect()
+}
+
+/// A sound drawing with itself always has a cutting, but where lines graze corners.
+fn with_itself(shape: Shape, n: usize) -> Vec<Pair> {
+    let mut dice = Dice::new(SEED);
+    let mut pair = || {
+        let drawing = shapes::drawing(&mut dice, shape, n);
+        Pair::of(&[drawing.clone(), drawing])
+    };
+    (0..PAIRS).map(|_| pair()).collect()
+}

@@ -1,0 +1,127 @@
+//! The product's library by its calls for C. It is loaded from a shared object, which
+//! `tools/library` makes of the product's archive, so that the libraries of two checkouts can stand
+//! beside each other in one program. Lists, cells and rooms go as pointer and length.
+
+use crate::desk::Outcome;
+use crate::desks::Desk;
+use std::ffi::{c_char, c_int, c_void, CStr, CString};
+use std::path::Path;
+
+#[repr(C)]
+#[derive(Default)]
+struct Reply {
+    number: u8,
+    pieces: usize,
+    bytes: usize,
+}
+
+/// A reply is written where the first argument points, on every machine: so the product's module
+/// has it. A C function that returns a struct would do the same on x86-64, but not on Arm, where
+/// the address comes in a register of its own.
+type Answer =
+    unsafe extern "C" fn(*mut Reply, *const i32, usize, *const i32, usize, *mut u8, usize);
+type Judge = unsafe extern "C" fn(*const i32, usize) -> u8;
+type Sight = unsafe extern "C" fn(*const i32, usize, *mut u8, usize) -> bool;
+type Cut =
+    unsafe extern "C" fn(*mut Reply, usize, *const u8, usize, *const u8, usize, *mut u8, usize);
+
+pub struct Library {
+    answer: Answer,
+    /// Earlier checkouts do not have it.
+    judge: Option<Judge>,
+    sight: Sight,
+    cut: Cut,
+}
+
+#[link(name = "dl")]
+extern "C" {
+    fn dlopen(path: *const c_char, mode: c_int) -> *mut c_void;
+    fn dlsym(library: *mut c_void, name: *const c_char) -> *mut c_void;
+    fn dlerror() -> *const c_char;
+}
+
+/// All names are looked up when the library is loaded.
+const NOW: c_int = 2;
+
+impl Library {
+    /// Loads the library, which stays loaded.
+    pub fn load(path: &Path) -> Result<Library, String> {
+        let name = CString::new(path.as_os_str().as_encoded_bytes()).map_err(|e| e.to_string())?;
+        // The name is a C string; what runs when the object is loaded is the C library's own.
+        let library = unsafe { dlopen(name.as_ptr(), NOW) };
+        if library.is_null() {
+            // After a failure the text is there, and nobody else loads anything.
+            return Err(unsafe { CStr::from_ptr(dlerror()) }.to_string_lossy().into_owned());
+        }
+        let find = |name: &CStr| {
+            // The library is loaded, and the name is a C string.
+            let found = unsafe { dlsym(library, name.as_ptr()) };
+            let missing = || format!("{}: no {}", path.display(), name.to_string_lossy());
+            (!found.is_null()).then_some(found).ok_or_else(missing)
+        };
+        // The product has its calls in these forms (crates/desk/src/lib.rt and stages.rt).
+        unsafe {
+            Ok(Library {
+                answer: std::mem::transmute::<*mut c_void, Answer>(find(c"iravikkon_answer")?),
+                judge: find(c"iravikkon_judge").ok().map(|f| std::mem::transmute::<_, Judge>(f)),
+                sight: std::mem::transmute::<*mut c_void, Sight>(find(c"iravikkon_sight")?),
+                cut: std::mem::transmute::<*mut c_void, Cut>(find(c"iravikkon_cut")?),
+            })
+        }
+    }
+
+    pub fn judges(&self) -> bool {
+        self.judge.is_some()
+    }
+}
+
+impl From<Reply> for Outcome {
+    fn from(reply: Reply) -> Outcome {
+        Outcome { number: reply.number, pieces: reply.pieces, bytes: reply.bytes }
+    }
+}
+
+// Each pointer comes with the length of its own slice; what is written to is lent alone.
+impl Desk for Library {
+    fn answer(&self, first: &[i32], second: &[i32], room: &mut [u8]) -> Outcome {
+        let mut reply = Reply::default();
+        unsafe {
+            (self.answer)(
+                &mut reply,
+                first.as_ptr(),
+                first.len(),
+                second.as_ptr(),
+                second.len(),
+                room.as_mut_ptr(),
+                room.len(),
+            );
+        }
+        reply.into()
+    }
+
+    fn judge(&self, list: &[i32]) -> u8 {
+        let judge = self.judge.expect("a library that judges");
+        unsafe { judge(list.as_ptr(), list.len()) }
+    }
+
+    fn sight(&self, list: &[i32], cells: &mut [u8]) -> bool {
+        unsafe { (self.sight)(list.as_ptr(), list.len(), cells.as_mut_ptr(), cells.len()) }
+    }
+
+    fn cut(&self, n: usize, first: &[u8], second: &[u8], room: &mut [u8]) -> Outcome {
+        let mut reply = Reply::default();
+        unsafe {
+            (self.cut)(
+                &mut reply,
+                n,
+                first.as_ptr(),
+                first.len(),
+                second.as_ptr(),
+                second.len(),
+                room.as_mut_ptr(),
+                room.len(),
+            );
+        }
+        reply.into()
+    }
+}

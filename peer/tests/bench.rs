@@ -1,0 +1,71 @@
+//! The benchmark: what it measures, and how.
+
+use peer::bench::contestants::{Work, Works};
+use peer::bench::race::{race, Turns};
+use peer::bench::rows::{sizes, KINDS};
+use peer::bench::table::{table, Row};
+use peer::desks::{Desk, Peer};
+use peer::drawing::MOST_CORNERS;
+use peer::pairs::Pair;
+use std::cell::RefCell;
+use std::time::Duration;
+
+fn number(pair: &Pair) -> u8 {
+    Peer.answer(&pair.first, &pair.second, &mut [0; 5 * MOST_CORNERS]).number
+}
+
+#[test]
+fn every_pair_that_is_measured_is_sound() {
+    for (kind, pairs) in KINDS {
+        for n in sizes() {
+            let pairs = pairs(n);
+            assert!(pairs.iter().all(|pair| pair.first.len() == 2 * n), "{kind}, {n} corners");
+            assert!(pairs.iter().all(|pair| [0, 9].contains(&number(pair))), "{kind}, {n} corners");
+        }
+    }
+}
+
+/// A search that ends in nothing is one kind of many.
+#[test]
+fn most_kinds_have_something_told() {
+    for (kind, pairs) in KINDS.into_iter().filter(|(kind, _)| *kind != "two stars") {
+        for n in sizes() {
+            assert!(pairs(n).iter().any(|pair| number(pair) == 0), "{kind}, {n} corners");
+        }
+    }
+}
+
+#[test]
+fn contestants_take_turns() {
+    let log = RefCell::new(Vec::new());
+    let note = |who: char| -> Option<Work<'_>> {
+        let log = &log;
+        Some(Box::new(move |pair| log.borrow_mut().push((who, pair))))
+    };
+    let works: [Works; 3] =
+        [[None, note('a'), None, None], Works::default(), [None, note('b'), None, None]];
+    let turns = Turns { count: 2, length: Duration::ZERO };
+    let times = race(turns, works, 2);
+    // Once to learn how many passes a turn has, then turn by turn.
+    let (a, b) = ([('a', 0), ('a', 1)], [('b', 0), ('b', 1)]);
+    assert_eq!(*log.borrow(), [a, b, a, b, a, b].concat());
+    let measured = times.map(|times| times.map(|time| time.is_some()));
+    assert_eq!(measured, [[false, true, false, false], [false; 4], [false, true, false, false]]);
+}
+
+#[test]
+fn a_table_has_the_stages_of_its_first_contestant() {
+    let row = |n, rival, product| Row {
+        kind: "convex",
+        n,
+        cut: "1/1".into(),
+        times: [[None, None, Some(rival), None], [Some(1.0), Some(2.0), Some(3.0), Some(product)]],
+    };
+    let expected = "\
+| pairs | n | cut | rival: cutting | product: cutting | ratio: cutting | growth |
+| --- | --- | --- | --- | --- | --- | --- |
+| convex | 8 | 1/1 | 6.00 | 3.00 | 2.00 |  |
+| convex | 16 | 1/1 | 1.50 | 3.00 | 0.50 | 4.0x |
+";
+    assert_eq!(table(["rival", "product"], &[row(8, 6.0, 10.0), row(16, 1.5, 40.0)]), expected);
+}
