@@ -1,9 +1,9 @@
-//! The strongest plain search in time n^4 that we know, for the benchmark to race against; the
-//! trials keep the peer's own.
+//! A stronger plain search, for the benchmark to race against; the trials keep the peer's own.
 //!
 //! A piece uses the roads to its centre and the roads from its centre on, and no others. The first
-//! kind is one table of pairs. Of the second kind a road from i to j has its centre at i or before,
-//! so that there are a quarter of the tries that all roads take:
+//! kind is one table of pairs. Of the second kind a road from i to j has its centre x at i or
+//! before, so that there are a quarter of the tries that the roads for every centre take, though
+//! still in time n^4:
 //!
 //! ```text
 //!     x <= i < b < j      a road from i to j for x: the line i-b, then the road from b to j

@@ -37,20 +37,20 @@ fn most_kinds_have_something_told() {
 
 #[test]
 fn contestants_take_turns() {
-    let log = RefCell::new(Vec::new());
+    let log = RefCell::new(String::new());
     let note = |who: char| -> Option<Work<'_>> {
         let log = &log;
-        Some(Box::new(move |pair| log.borrow_mut().push((who, pair))))
+        Some(Box::new(move |pair| log.borrow_mut().push_str(&format!("{who}{pair} "))))
     };
     let works: [Works; 3] =
-        [[None, note('a'), None, None], Works::default(), [None, note('b'), None, None]];
-    let turns = Turns { count: 2, length: Duration::ZERO };
-    let times = race(turns, works, 2);
-    // Once to learn how many passes a turn has, then turn by turn.
-    let (a, b) = ([('a', 0), ('a', 1)], [('b', 0), ('b', 1)]);
-    assert_eq!(*log.borrow(), [a, b, a, b, a, b].concat());
+        [[None, note('a'), None, note('c')], Works::default(), [None, note('b'), None, note('d')]];
+    let times = race(Turns { count: 2, length: Duration::ZERO }, works, 2);
+    let learned = "a0 a1 c0 c1 b0 b1 d0 d1 ";
+    let turn = "a0 a1 b0 b1 c0 c1 d0 d1 ";
+    assert_eq!(*log.borrow(), [learned, turn, turn].concat());
     let measured = times.map(|times| times.map(|time| time.is_some()));
-    assert_eq!(measured, [[false, true, false, false], [false; 4], [false, true, false, false]]);
+    let two = [false, true, false, true];
+    assert_eq!(measured, [two, [false; 4], two]);
 }
 
 #[test]

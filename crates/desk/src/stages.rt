@@ -2,7 +2,6 @@
 // be run and measured by itself, in the archive that has the whole.
 ghost use Rattle.drawing.specs.Sight.{Sight};
 ghost use Rattle.desk.specs.Stages.{JudgesFirst, Says, Cuts};
-
 use crate::Outcome;
 use crate::first_number;
 

@@ -1,8 +1,8 @@
-//! Turn by turn: in every turn each contestant works once, one after the other, so that whatever
-//! else the machine does meets all of them alike.
+//! Turn by turn: in every turn each contestant works once in each stage, one after the other, so
+//! that whatever else the machine does meets all of them alike.
 
 use super::contestants::{Work, Works};
-use super::{Times, STAGES};
+use super::Times;
 use std::hint::black_box;
 use std::time::{Duration, Instant};
 
@@ -16,23 +16,26 @@ pub struct Turns {
 /// The best times of each contestant on so many pairs.
 pub fn race<const N: usize>(turns: Turns, mut works: [Works; N], pairs: usize) -> [Times; N] {
     let mut times = [Times::default(); N];
-    for stage in 0..STAGES.len() {
-        let mut running: Vec<Runner> = Vec::new();
-        for (works, times) in works.iter_mut().zip(&mut times) {
-            if let Some(work) = &mut works[stage] {
+    let mut runners = Vec::new();
+    for (works, times) in works.iter_mut().zip(&mut times) {
+        for (stage, (work, time)) in works.iter_mut().zip(times).enumerate() {
+            if let Some(work) = work {
                 let passes = passes(turns, work, pairs);
-                running.push(Runner { work, passes, best: times[stage].insert(f64::INFINITY) });
+                runners.push(Runner { stage, work, passes, best: time.insert(f64::INFINITY) });
             }
         }
-        for _ in 0..turns.count {
-            running.iter_mut().for_each(|runner| runner.turn(pairs));
-        }
+    }
+    // Those who do the same follow each other.
+    runners.sort_by_key(|runner| runner.stage);
+    for _ in 0..turns.count {
+        runners.iter_mut().for_each(|runner| runner.turn(pairs));
     }
     times
 }
 
 /// A contestant in one stage.
 struct Runner<'a, 'b> {
+    stage: usize,
     work: &'a mut Work<'b>,
     /// How many passes over the pairs it makes in a turn.
     passes: usize,
