@@ -75,28 +75,21 @@ impl Library {
     }
 }
 
-impl From<Reply> for Outcome {
-    fn from(reply: Reply) -> Outcome {
-        Outcome { number: reply.number, pieces: reply.pieces, bytes: reply.bytes }
-    }
+/// What the call has put into the reply that it is handed.
+fn replied(call: impl FnOnce(*mut Reply)) -> Outcome {
+    let mut reply = Reply::default();
+    call(&mut reply);
+    Outcome { number: reply.number, pieces: reply.pieces, bytes: reply.bytes }
 }
 
 // Each pointer comes with the length of its own slice; what is written to is lent alone.
 impl Desk for Library {
     fn answer(&self, first: &[i32], second: &[i32], room: &mut [u8]) -> Outcome {
-        let mut reply = Reply::default();
-        unsafe {
-            (self.answer)(
-                &mut reply,
-                first.as_ptr(),
-                first.len(),
-                second.as_ptr(),
-                second.len(),
-                room.as_mut_ptr(),
-                room.len(),
-            );
-        }
-        reply.into()
+        let (one, two) = (first.as_ptr(), second.as_ptr());
+        let (out, size) = (room.as_mut_ptr(), room.len());
+        replied(|reply| unsafe {
+            (self.answer)(reply, one, first.len(), two, second.len(), out, size)
+        })
     }
 
     fn judge(&self, list: &[i32]) -> u8 {
@@ -109,19 +102,10 @@ impl Desk for Library {
     }
 
     fn cut(&self, n: usize, first: &[u8], second: &[u8], room: &mut [u8]) -> Outcome {
-        let mut reply = Reply::default();
-        unsafe {
-            (self.cut)(
-                &mut reply,
-                n,
-                first.as_ptr(),
-                first.len(),
-                second.as_ptr(),
-                second.len(),
-                room.as_mut_ptr(),
-                room.len(),
-            );
-        }
-        reply.into()
+        let (one, two) = (first.as_ptr(), second.as_ptr());
+        let (out, size) = (room.as_mut_ptr(), room.len());
+        replied(|reply| unsafe {
+            (self.cut)(reply, n, one, first.len(), two, second.len(), out, size)
+        })
     }
 }
