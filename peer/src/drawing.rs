@@ -140,7 +140,7 @@ pub struct Sight {
 }
 
 impl Sight {
-    /// The sight in which i sees j when the rule says so: any table, as no drawing need have it.
+    /// The sight in which i sees j when the rule says so: any table, whether a drawing has it or not.
     pub fn from_cells(n: usize, rule: impl Fn(usize, usize) -> bool) -> Sight {
         Sight { n, cells: (0..n * n).map(|at| rule(at / n, at % n)).collect() }
     }

@@ -1,11 +1,12 @@
 //! An independent implementation of document 01, the paper of rules ("01" in the comments), to run the product
 //! against: written from the document, with exact whole numbers, and sharing no code with it.
 //!
-//! `drawing` judges drawings and finds sight; `cutting` searches from sight alone, and
-//! `exhaustive` does the same for few corners by trying every cutting; `desk` answers a pair,
-//! `frames` a whole input. `pairs` makes drawings, pairs and inputs to try; `program` runs another
-//! program on them, and `desks` is the seam for another library. `show` draws pairs with a
-//! program's answers.
+//! `drawing` judges drawings and finds sight; `cutting` searches from sight alone, `telling` tells
+//! what it has found, and `exhaustive` does the same for few corners by trying every cutting; `desk`
+//! answers a pair, `frames` a whole input. `pairs` makes drawings, pairs, calls and inputs to try;
+//! `program` runs another program on them, `desks` compares the calls of another library, and
+//! `library` is the product's. `bench` measures, with a `rival` search beside the peer's. `show`
+//! draws pairs with a program's answers.
 
 pub mod bench;
 pub mod cutting;

@@ -19,7 +19,7 @@ pub const KINDS: [Kind; 9] = [
     ("two stars", two_stars),
     ("star with itself", |n| with_itself(Shape::Star, n)),
     ("comb with itself", |n| with_itself(Shape::Comb, n)),
-    ("squared paper", |n| with_itself(Shape::Rectilinear, n)),
+    ("wall on squared paper", wall),
     ("traced blob", |n| with_itself(Shape::Blob, n)),
     ("traced limb", |n| with_itself(Shape::Limb, n)),
     ("grown by chance", |n| with_itself(Shape::Wide, n)),
@@ -42,6 +42,28 @@ fn spiral(n: usize) -> Vec<Pair> {
     vec![Pair::of(&[drawing.clone(), sheared.collect()])]
 }
 
+/// A wall one square high with battlements of one square, and along its foot as many corners as are
+/// left. Of the lines between two of 64 corners 42 in a hundred touch a third.
+///
+/// ```text
+///      _   _   _
+///     | |_| |_| |
+///     |_._._._._|
+/// ```
+fn wall(n: usize) -> Vec<Pair> {
+    let merlons = (n + 2).div_ceil(6) as i64;
+    let width = 2 * merlons - 1;
+    let along = n as i64 - 4 * merlons;
+    let mut drawing: Vec<Corner> = (0..=along).map(|x| Corner::at(x, 0)).collect();
+    drawing.push(Corner::at(width, 0));
+    for left in (0..merlons).rev().map(|k| 2 * k) {
+        let corners = [(left + 1, 1), (left + 1, 2), (left, 2), (left, 1)];
+        let bends = |&(x, y): &(i64, i64)| y == 2 || 0 < x && x < width;
+        drawing.extend(corners.iter().filter(|c| bends(c)).map(|&(x, y)| Corner::at(x, y)));
+    }
+    vec![Pair::of(&[drawing.clone(), drawing])]
+}
+
 /// Two star-shaped drawings have next to no sight in common.
 fn two_stars(n: usize) -> Vec<Pair> {
     let mut dice = Dice::new(SEED);
@@ -49,7 +71,7 @@ fn two_stars(n: usize) -> Vec<Pair> {
     (0..PAIRS).map(|_| pair()).collect()
 }
 
-/// A sound drawing with itself always has a cutting, but where lines graze corners.
+/// Drawings of the shape, each with itself.
 fn with_itself(shape: Shape, n: usize) -> Vec<Pair> {
     let mut dice = Dice::new(SEED);
     let mut pair = || {

@@ -100,7 +100,7 @@ impl Totals {
         let Totals { numbers, streams, laws, calls } = self;
         format!(
             "same answers: {pairs} pairs (numbers 0 to 9: {numbers:?}), {streams} malformed inputs, \
-             {laws} cases of demand 3, {calls} calls of the library, seed {seed}"
+             {laws} cases of demand 3, {calls} calls of the linked library, seed {seed}"
         )
     }
 }
