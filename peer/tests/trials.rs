@@ -42,6 +42,16 @@ fn faults_are_found() {
 }
 
 #[test]
+fn a_library_that_is_not_there_is_named() {
+    let output = compare(&[PEER, "0", "5", "--library", "no/such.so"]);
+    let said = String::from_utf8(output.stderr).unwrap();
+    assert_eq!(output.status.code(), Some(2));
+    assert!(said.starts_with("compare: no/such.so: "), "{said}");
+    let output = compare(&[PEER, "--library"]);
+    assert!(output.status.code() == Some(2) && output.stderr.starts_with(b"compare PROGRAM"));
+}
+
+#[test]
 fn generated_frames_are_those_of_the_seed() {
     let generate = |kind: &str, seed: &str| {
         let words = [kind, "20", seed];
