@@ -43,7 +43,7 @@ pub fn refused(number: u8) -> Outcome {
 }
 
 /// The most bytes that any cutting of n corners takes.
-pub fn needed_room(n: usize) -> usize {
+pub const fn needed_room(n: usize) -> usize {
     5 * n - 10
 }
 

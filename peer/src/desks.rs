@@ -6,9 +6,8 @@ use crate::drawing::{self, Judged, Sight, FEWEST_CORNERS, MOST_CORNERS};
 use crate::pairs::calls::{self, Call};
 use crate::pairs::dice::Dice;
 
-/// Cells stand in rows of so many, whatever the number of corners: cell i*64+j tells whether i
-/// sees j.
-pub const ROW: usize = 64;
+/// Cells stand in rows of 64, whatever the number of corners: cell i*64+j tells whether i sees j.
+pub const ROW: usize = MOST_CORNERS;
 pub const CELLS: usize = ROW * ROW;
 
 /// A desk and its stages. Any lists, cells and rooms may be handed in.

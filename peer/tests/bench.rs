@@ -1,17 +1,16 @@
 //! The benchmark: what it measures, and how.
 
-use peer::bench::contestants::{Work, Works};
+use peer::bench::contestants::{Work, Works, ROOM};
 use peer::bench::race::{race, Turns};
 use peer::bench::rows::{sizes, KINDS};
 use peer::bench::table::{table, Row};
 use peer::desks::{Desk, Peer};
-use peer::drawing::MOST_CORNERS;
 use peer::pairs::Pair;
 use std::cell::RefCell;
 use std::time::Duration;
 
 fn number(pair: &Pair) -> u8 {
-    Peer.answer(&pair.first, &pair.second, &mut [0; 5 * MOST_CORNERS]).number
+    Peer.answer(&pair.first, &pair.second, &mut [0; ROOM]).number
 }
 
 #[test]

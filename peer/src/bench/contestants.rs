@@ -2,14 +2,14 @@
 
 use super::STAGES;
 use crate::desks::{Desk, CELLS};
-use crate::drawing::{self, Sight};
+use crate::drawing::{self, Sight, MOST_CORNERS};
 use crate::library::Library;
 use crate::pairs::Pair;
 use crate::{cutting, desk, rival};
 use std::hint::black_box;
 
 /// The room of a pair, as the program gives it; it is not cleared between calls.
-pub const ROOM: usize = 310;
+pub const ROOM: usize = desk::needed_room(MOST_CORNERS);
 
 /// What is done with pair k in a stage.
 pub type Work<'a> = Box<dyn FnMut(usize) + 'a>;

@@ -57,7 +57,7 @@ fn cut(dice: &mut Dice, n: usize, [mut first, mut second]: [Vec<u8>; 2]) -> Call
 /// Often just enough for n corners, or just too small.
 fn some_room(dice: &mut Dice, n: usize) -> Vec<u8> {
     let needed = (5 * n).saturating_sub(10);
-    let sizes = [needed, needed, needed + 1, needed.saturating_sub(1), 0, 310, 1000];
+    let sizes = [needed, needed, needed + 1, needed.saturating_sub(1), 0, 1000];
     let size = dice.pick(&sizes);
     noise(dice, size)
 }
