@@ -7,23 +7,24 @@ use crate::desks::Desk;
 use std::ffi::{c_char, c_int, c_void, CStr, CString};
 use std::path::Path;
 
+/// The product's outcome as C lays it out.
 #[repr(C)]
 #[derive(Default)]
-struct Reply {
+struct COutcome {
     number: u8,
     pieces: usize,
     bytes: usize,
 }
 
-/// A reply is written where the first argument points, on every machine: so the product's module
+/// An outcome is written where the first argument points, on every machine: so the product's module
 /// has it. A C function that returns a struct would do the same on x86-64, but not on Arm, where
 /// the address comes in a register of its own.
 type Answer =
-    unsafe extern "C" fn(*mut Reply, *const i32, usize, *const i32, usize, *mut u8, usize);
+    unsafe extern "C" fn(*mut COutcome, *const i32, usize, *const i32, usize, *mut u8, usize);
 type Judge = unsafe extern "C" fn(*const i32, usize) -> u8;
 type Sight = unsafe extern "C" fn(*const i32, usize, *mut u8, usize) -> bool;
 type Cut =
-    unsafe extern "C" fn(*mut Reply, usize, *const u8, usize, *const u8, usize, *mut u8, usize);
+    unsafe extern "C" fn(*mut COutcome, usize, *const u8, usize, *const u8, usize, *mut u8, usize);
 
 pub struct Library {
     answer: Answer,
@@ -44,8 +45,18 @@ extern "C" {
 const NOW: c_int = 2;
 
 impl Library {
-    /// Loads the library, which stays loaded.
+    /// Loads a library that has every call.
     pub fn load(path: &Path) -> Result<Library, String> {
+        let library = Library::load_other(path)?;
+        if library.judges() {
+            Ok(library)
+        } else {
+            Err(format!("{}: no iravikkon_judge", path.display()))
+        }
+    }
+
+    /// Loads the library of another checkout, which may lack what came later. It stays loaded.
+    pub fn load_other(path: &Path) -> Result<Library, String> {
         let name = CString::new(path.as_os_str().as_encoded_bytes()).map_err(|e| e.to_string())?;
         // The name is a C string; what runs when the object is loaded is the C library's own.
         let library = unsafe { dlopen(name.as_ptr(), NOW) };
@@ -75,11 +86,11 @@ impl Library {
     }
 }
 
-/// What the call has put into the reply that it is handed.
-fn replied(call: impl FnOnce(*mut Reply)) -> Outcome {
-    let mut reply = Reply::default();
-    call(&mut reply);
-    Outcome { number: reply.number, pieces: reply.pieces, bytes: reply.bytes }
+/// What the call has put where it was told to.
+fn outcome(call: impl FnOnce(*mut COutcome)) -> Outcome {
+    let mut written = COutcome::default();
+    call(&mut written);
+    Outcome { number: written.number, pieces: written.pieces, bytes: written.bytes }
 }
 
 // Each pointer comes with the length of its own slice; what is written to is lent alone.
@@ -87,9 +98,7 @@ impl Desk for Library {
     fn answer(&self, first: &[i32], second: &[i32], room: &mut [u8]) -> Outcome {
         let (one, two) = (first.as_ptr(), second.as_ptr());
         let (out, size) = (room.as_mut_ptr(), room.len());
-        replied(|reply| unsafe {
-            (self.answer)(reply, one, first.len(), two, second.len(), out, size)
-        })
+        outcome(|to| unsafe { (self.answer)(to, one, first.len(), two, second.len(), out, size) })
     }
 
     fn judge(&self, list: &[i32]) -> u8 {
@@ -104,8 +113,6 @@ impl Desk for Library {
     fn cut(&self, n: usize, first: &[u8], second: &[u8], room: &mut [u8]) -> Outcome {
         let (one, two) = (first.as_ptr(), second.as_ptr());
         let (out, size) = (room.as_mut_ptr(), room.len());
-        replied(|reply| unsafe {
-            (self.cut)(reply, n, one, first.len(), two, second.len(), out, size)
-        })
+        outcome(|to| unsafe { (self.cut)(to, n, one, first.len(), two, second.len(), out, size) })
     }
 }

@@ -2,9 +2,12 @@
 
 use peer::bench::contestants::{Work, Works, ROOM};
 use peer::bench::race::{race, Turns};
+use peer::bench::rates::{rates, Run};
 use peer::bench::rows::{sizes, KINDS};
 use peer::bench::table::{table, Row};
 use peer::desks::{Desk, Peer};
+use peer::drawing::{corners, share_a_point};
+use peer::frames;
 use peer::pairs::Pair;
 use std::cell::RefCell;
 use std::time::Duration;
@@ -32,6 +35,29 @@ fn most_kinds_have_something_told() {
             assert!(pairs(n).iter().any(|pair| number(pair) == 0), "{kind}, {n} corners");
         }
     }
+}
+
+/// docs/PERFORMANCE.md has the figure.
+#[test]
+fn many_lines_of_the_wall_touch_a_third_corner() {
+    let (_, wall) = KINDS.into_iter().find(|(kind, _)| *kind == "wall on squared paper").unwrap();
+    let drawing = corners(&wall(64)[0].first);
+    let n = drawing.len();
+    let lines = (0..n).flat_map(|i| (i + 2..n).map(move |j| (i, j)));
+    let lines: Vec<(usize, usize)> = lines.filter(|&(i, j)| j - i < n - 1).collect();
+    let touches = |&&(i, j): &&(usize, usize)| {
+        let on = |k: usize| share_a_point(drawing[i], drawing[j], drawing[k], drawing[k]);
+        (0..n).any(|k| k != i && k != j && on(k))
+    };
+    assert_eq!(100 * lines.iter().filter(touches).count() / lines.len(), 42);
+}
+
+#[test]
+fn a_program_that_answers_too_little_has_no_rate() {
+    let runs: Vec<Run> = vec![Box::new(frames::run), Box::new(|_| Vec::new())];
+    let input = include_bytes!("../data/fig8.hex");
+    let rates = rates(2, &runs, input);
+    assert!(rates[0].is_some_and(|rate| rate > 0.0) && rates[1].is_none(), "{rates:?}");
 }
 
 #[test]

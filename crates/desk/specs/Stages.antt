@@ -1,5 +1,5 @@
--- The promises of the stages under C names. They are those of `drawing::judge` and `cutting::cut`, with the outcome told in 01's numbers.
--- (`iravikkon_sight` has the promise of `drawing::sight` as it stands.)
+-- The promises of the stages under C names. They are those of `drawing::judge` and `cutting::cut`, with the outcome told
+-- in 01's numbers (01, "What comes back"). `iravikkon_sight` has the promise of `drawing::sight` as it stands.
 use mathlib.Core.Path.{_≡_, sym, ap, subst, _∙_}
 use mathlib.Core.List.{List}
 use Prim.Native.Nat.{ℕ}

@@ -1,5 +1,5 @@
-// The stages of the answer under C names: the judgement of a drawing, its sight, the cutting from the sight of two. `answer` joins them; here each can
-// be run and measured by itself, in the archive that has the whole.
+// The stages of the answer under C names: the judgement of a drawing, its sight, the cutting from the sight of two.
+// `answer` joins them; here each can be run and measured by itself, in the archive that has the whole.
 ghost use Rattle.drawing.specs.Sight.{Sight};
 ghost use Rattle.desk.specs.Stages.{JudgesFirst, Says, Cuts};
 use crate::Outcome;
@@ -13,6 +13,7 @@ pub extern "C" fn iravikkon_judge(xy: &[i32]) -> u8
     first_number(drawing::judge(xy))
 }
 
+// `drawing::sight` for C.
 #[no_mangle]
 pub extern "C" fn iravikkon_sight(xy: &[i32], cells: &mut [u8]) -> bool
     ensures { λ r. ⌜ Sight (now (xy .entry)) (now (cells .entry)) (now (cells .exit)) r ⌝ }
@@ -43,6 +44,7 @@ fn in_numbers(outcome: cutting::Outcome) -> Outcome
     }
 }
 
+// `cutting::cut` for C.
 #[no_mangle]
 pub extern "C" fn iravikkon_cut(n: usize, first: &[u8], second: &[u8], answer: &mut [u8]) -> Outcome
     ensures { λ r. ⌜ Cuts n (now (first .entry)) (now (second .entry)) (now (answer .entry)) (now (answer .exit)) (r .number) (r .pieces) (r .bytes) ⌝ }

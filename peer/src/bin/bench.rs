@@ -11,14 +11,15 @@ use peer::bench::{rows, Times};
 use peer::frames;
 use peer::library::Library;
 use peer::program::Program;
-use std::path::{Path, PathBuf};
+use std::path::PathBuf;
 use std::process::ExitCode;
 use std::time::Duration;
 
 const TURNS: Turns = Turns { count: 50, length: Duration::from_millis(3) };
 const QUICK: Turns = Turns { count: 1, length: Duration::ZERO };
-/// How often the big frames stand in one input.
+/// How often the big frames stand in one input, and how often it is run at most.
 const BIG_TIMES: usize = 10;
+const BIG_TURNS: usize = 5;
 
 fn main() -> ExitCode {
     let mut words: Vec<String> = std::env::args().skip(1).collect();
@@ -38,8 +39,10 @@ fn main() -> ExitCode {
 }
 
 fn bench(turns: Turns, folders: &[PathBuf]) -> Result<(), String> {
-    let load = |at: usize| folders.get(at).map(|folder| library(folder)).transpose();
-    let libraries = Libraries { product: load(0)?, before: load(1)? };
+    let library = |at: usize| Some(folders.get(at)?.join("target/native/libiravikkon.so"));
+    let product = library(0).map(|path| Library::load(&path)).transpose()?;
+    let before = library(1).map(|path| Library::load_other(&path)).transpose()?;
+    let libraries = Libraries { product, before };
     let mut measured = Vec::new();
     for (kind, pairs) in rows::KINDS {
         for n in rows::sizes() {
@@ -58,12 +61,7 @@ fn bench(turns: Turns, folders: &[PathBuf]) -> Result<(), String> {
         let rows: Vec<Row> = measured.iter().map(row).collect();
         println!("\n{}", table(names, &rows));
     }
-    print_rates(folders);
-    Ok(())
-}
-
-fn library(folder: &Path) -> Result<Library, String> {
-    Library::load(&folder.join("target/native/libiravikkon.so"))
+    print_rates(turns.count.min(BIG_TURNS), folders)
 }
 
 /// The names of two contestants, and their times.
@@ -85,7 +83,7 @@ fn tables(libraries: &Libraries) -> Vec<Two> {
 }
 
 /// The peer, and the checkouts' programs where they run without an emulator, on the big frames.
-fn print_rates(folders: &[PathBuf]) {
+fn print_rates(turns: usize, folders: &[PathBuf]) -> Result<(), String> {
     let input = include_bytes!("../../data/big.hex").repeat(BIG_TIMES);
     let mut names = vec!["the peer".to_string()];
     let mut runs: Vec<Run> = vec![Box::new(frames::run)];
@@ -98,7 +96,9 @@ fn print_rates(folders: &[PathBuf]) {
     println!(
         "Pairs a second on data/big.hex {BIG_TIMES} times over, reading and writing frames:\n"
     );
-    for (name, rate) in names.iter().zip(rates(&runs, &input)) {
+    for (name, rate) in names.iter().zip(rates(turns, &runs, &input)) {
+        let rate = rate.ok_or_else(|| format!("{name}: it does not answer every pair"))?;
         println!("- {rate:.0} {name}");
     }
+    Ok(())
 }

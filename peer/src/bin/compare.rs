@@ -9,7 +9,7 @@ use peer::library::Library;
 use peer::pairs::dice::Dice;
 use peer::pairs::{list, pair, rules, streams, Kind, Pair};
 use peer::program::{Program, Run};
-use std::path::{Path, PathBuf};
+use std::path::PathBuf;
 use std::process::ExitCode;
 use std::time::{Duration, Instant};
 
@@ -28,7 +28,7 @@ fn main() -> ExitCode {
         eprintln!("{USAGE}");
         return ExitCode::from(2);
     };
-    let library = match library.map(|path| loaded(&path)).transpose() {
+    let library = match library.map(|path| Library::load(&path)).transpose() {
         Ok(library) => library,
         Err(error) => {
             eprintln!("compare: {error}");
@@ -72,13 +72,6 @@ fn arguments(mut words: Vec<String>) -> Option<Arguments> {
     wrapper.push(words[0].clone());
     let command = wrapper.into_iter().skip(usize::from(end.is_some())).collect();
     Some(Arguments { program: Program { command }, library, seconds, seed })
-}
-
-/// A library with all its calls.
-fn loaded(path: &Path) -> Result<Library, String> {
-    let library = Library::load(path)?;
-    let missing = || format!("{}: no iravikkon_judge", path.display());
-    library.judges().then_some(library).ok_or_else(missing)
 }
 
 #[derive(Default)]
