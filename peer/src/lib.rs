@@ -5,14 +5,16 @@
 //! what it has found, and `exhaustive` does the same for few corners by trying every cutting; `desk`
 //! answers a pair, `frames` a whole input. `pairs` makes drawings, pairs, calls and inputs to try;
 //! `program` runs another program on them, `desks` compares the calls of another library, and
-//! `library` is the product's. `bench` measures, with a `rival` search beside the peer's. `show`
-//! draws pairs with a program's answers.
+//! `library` is the product's. `bench` measures, with a `rival` search beside the peer's. `entry`
+//! makes frames of drawings as people have them; `show` draws pairs with a program's answers, and
+//! `tell` says them in words.
 
 pub mod bench;
 pub mod cutting;
 pub mod desk;
 pub mod desks;
 pub mod drawing;
+pub mod entry;
 pub mod exhaustive;
 pub mod frames;
 pub mod library;
@@ -20,4 +22,5 @@ pub mod pairs;
 pub mod program;
 pub mod rival;
 pub mod show;
+pub mod tell;
 pub mod telling;

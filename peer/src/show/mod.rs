@@ -11,7 +11,7 @@ mod labels;
 mod marks;
 mod page;
 mod plane;
-mod reading;
+pub(crate) mod reading;
 mod svg;
 pub mod words;
 

@@ -6,7 +6,7 @@ use super::marks::{self, Marks};
 use super::plane::{point, Point, Scale};
 use super::reading::{self, Answer, Drawing, Frames};
 use super::svg;
-use super::words::{self, counted, grouped, wrapped};
+use super::words::{self, counted, grouped, wrapped, ENDED};
 use crate::drawing::Corner;
 use crate::telling::Piece;
 
@@ -27,8 +27,6 @@ const COLUMN: usize = 42;
 
 /// How wide a character of a note is, a little more than less.
 const CHARACTER: f64 = 6.4;
-
-const ENDED: &str = "EF: the program ended the run here.";
 
 /// The page of an input and of what the program wrote for it, if that is known.
 pub fn page(frames: &[u8], answers: Option<&[u8]>) -> String {
@@ -143,10 +141,10 @@ impl Page {
                 return self.given(pieces, pair);
             }
             Some(Answer::Refused(number)) => return self.refused(*number, pair),
-            Some(Answer::Cut(_)) => "The answer does not fit the pair.",
+            Some(Answer::Cut(_)) => words::UNFIT,
             Some(Answer::Ended) => ENDED,
-            Some(Answer::Unclear(line)) => &format!("This is no answer: {line}"),
-            None => "There is no answer to this pair.",
+            Some(Answer::Unclear(line)) => &words::unclear(line),
+            None => words::MISSING,
         };
         self.say("refusal", wrong);
         let [first, second] = pair;
@@ -248,8 +246,7 @@ impl Page {
             self.say("refusal", ENDED);
         }
         if surplus > 0 {
-            let lines = counted(surplus, "line");
-            self.say("refusal", &format!("The answers go on for {lines} more."));
+            self.say("refusal", &words::surplus(surplus));
         }
         if let Some(first) = &frames.lone {
             self.drawings([Some(first), None], [Content::Refused(&Marks::Nothing); 2]);

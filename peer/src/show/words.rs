@@ -12,6 +12,20 @@ pub fn line(number: u8) -> &'static str {
     lines().nth(usize::from(number)).unwrap_or_default()
 }
 
+/// What is said of an answer that is none to its pair, and of the line EF.
+pub const UNFIT: &str = "The answer does not fit the pair.";
+pub const MISSING: &str = "There is no answer to this pair.";
+pub const ENDED: &str = "EF: the program ended the run here.";
+
+pub fn unclear(line: &str) -> String {
+    format!("This is no answer: {line}")
+}
+
+/// Says that there are so many answers more than pairs.
+pub fn surplus(lines: usize) -> String {
+    format!("The answers go on for {} more.", counted(lines, "line"))
+}
+
 /// A count with its noun: "1 piece", "2 pieces".
 pub fn counted(count: usize, noun: &str) -> String {
     let ending = if count == 1 { "" } else { "s" };

@@ -1,0 +1,53 @@
+//! The answers to an input in words: the pieces of each pair, or its refusal. The answers are the
+//! program's, and the words are those of the page (`show`).
+
+use crate::show::reading::{self, fits, Answer, Drawing};
+use crate::show::words::{self, counted, letters, ENDED};
+use crate::telling::Piece;
+
+/// What the program wrote for the frames, in words: a paragraph for each pair.
+pub fn tell(frames: &[u8], answers: &[u8]) -> String {
+    let frames = reading::frames(frames);
+    let answers = reading::answers(answers);
+    let mut text = String::new();
+    for (k, pair) in frames.pairs.iter().enumerate() {
+        let told = told(pair, answers.get(k));
+        text += &format!("Pair {}\n{told}\n\n", k + 1);
+    }
+    let beyond = &answers[frames.pairs.len().min(answers.len())..];
+    text + &end(frames.stop, beyond)
+}
+
+fn told(pair: &[Drawing; 2], answer: Option<&Answer>) -> String {
+    match answer {
+        Some(Answer::Cut(pieces)) if fits(pieces, pair) => given(pieces),
+        Some(Answer::Cut(_)) => words::UNFIT.into(),
+        Some(Answer::Refused(number)) => words::line(*number).into(),
+        Some(Answer::Ended) => ENDED.into(),
+        Some(Answer::Unclear(line)) => words::unclear(line),
+        None => words::MISSING.into(),
+    }
+}
+
+fn given(pieces: &[Piece]) -> String {
+    let mut lines = vec![format!("{}: {}", words::line(0), counted(pieces.len(), "piece"))];
+    for (k, Piece { centre, corners }) in pieces.iter().enumerate() {
+        let corners: Vec<String> = corners.iter().map(usize::to_string).collect();
+        lines.push(format!("{}: centre {centre}, corners {}", letters(k), corners.join(", ")));
+    }
+    lines.join("\n")
+}
+
+/// Why there is no more, and what the program wrote beyond the pairs.
+fn end(stop: Option<String>, beyond: &[Answer]) -> String {
+    let ended = stop.is_some() && matches!(beyond, [Answer::Ended, ..]);
+    let surplus = beyond.len() - usize::from(ended);
+    let mut lines: Vec<String> = stop.into_iter().collect();
+    if ended {
+        lines.push(ENDED.into());
+    }
+    if surplus > 0 {
+        lines.push(words::surplus(surplus));
+    }
+    lines.iter().map(|line| format!("{line}\n")).collect()
+}

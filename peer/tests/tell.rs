@@ -1,0 +1,66 @@
+//! The answers in words (src/tell.rs).
+
+use peer::frames::{self, frame, FIRST, SECOND};
+use peer::tell::tell;
+
+/// Outlines of 01, and one that crosses itself.
+const S: [i32; 8] = [0, 0, 4, 0, 4, 4, 0, 4];
+const Z: [i32; 12] = [0, 0, 10, 0, 4, 2, 10, 10, 0, 10, 6, 8];
+const H: [i32; 12] = [2, 0, 6, 0, 8, 4, 6, 8, 2, 8, 0, 4];
+const CROSSED: [i32; 8] = [0, 0, 4, 4, 4, 0, 0, 4];
+
+fn pair(first: &[i32], second: &[i32]) -> Vec<u8> {
+    [frame(FIRST, first), frame(SECOND, second)].concat()
+}
+
+/// What is told of the input and of the peer's answers to it.
+fn told(input: &[u8]) -> String {
+    tell(input, &frames::run(input))
+}
+
+#[test]
+fn pieces_and_refusals() {
+    let input = [pair(&Z, &H), pair(&S, &CROSSED)].concat();
+    let expected = "\
+Pair 1
+0: the cutting is given: 2 pieces
+A: centre 0, corners 0, 1, 2, 3, 5
+B: centre 3, corners 3, 4, 5
+
+Pair 2
+7: the second drawing is not simple
+
+";
+    assert_eq!(told(&input), expected);
+    assert_eq!(told(b""), "");
+}
+
+#[test]
+fn the_run_ends() {
+    let square = "Pair 1\n0: the cutting is given: 1 piece\nA: centre 0, corners 0, 1, 2, 3\n\n";
+    for (rest, stop) in [
+        (frame(FIRST, &S), "The frames end after a first drawing."),
+        (frame(SECOND, &S), "Line 3 of the frames is out of turn."),
+        (b"100\n".to_vec(), "Line 3 of the frames is of another form."),
+    ] {
+        let told = told(&[pair(&S, &S), rest].concat());
+        assert_eq!(told, format!("{square}{stop}\nEF: the program ended the run here.\n"));
+    }
+}
+
+#[test]
+fn answers_that_are_none() {
+    let input = pair(&S, &S);
+    for (answers, words) in [
+        ("", "There is no answer to this pair.\n\n"),
+        ("EF\n", "EF: the program ended the run here.\n\n"),
+        ("A0\n", "This is no answer: A0\n\n"),
+        ("A0020300000102\n", "This is no answer: A0020300000102\n\n"),
+        ("A0010300000102\n", "The answer does not fit the pair.\n\n"),
+        ("E001\nE001\n", "1: a list has odd length, "),
+    ] {
+        let told = tell(&input, answers.as_bytes());
+        assert!(told.starts_with(&format!("Pair 1\n{words}")), "{told}");
+    }
+    assert!(tell(&input, b"E001\nE001\n").ends_with("\n\nThe answers go on for 1 line more.\n"));
+}
