@@ -5,17 +5,16 @@ use crate::show::reading::{self, fits, Answer, Drawing};
 use crate::show::words::{self, counted, letters, ENDED};
 use crate::telling::Piece;
 
-/// What the program wrote for the frames, in words: a paragraph for each pair.
+/// What the program wrote for the frames, in words: a paragraph for each pair, and one for the end
+/// if the run ends early.
 pub fn tell(frames: &[u8], answers: &[u8]) -> String {
     let frames = reading::frames(frames);
     let answers = reading::answers(answers);
-    let mut text = String::new();
-    for (k, pair) in frames.pairs.iter().enumerate() {
-        let told = told(pair, answers.get(k));
-        text += &format!("Pair {}\n{told}\n\n", k + 1);
-    }
     let beyond = &answers[frames.pairs.len().min(answers.len())..];
-    text + &end(frames.stop, beyond)
+    let paragraph = |(k, pair)| format!("Pair {}\n{}\n", k + 1, told(pair, answers.get(k)));
+    let mut paragraphs: Vec<String> = frames.pairs.iter().enumerate().map(paragraph).collect();
+    paragraphs.extend(end(frames.stop, beyond));
+    paragraphs.join("\n")
 }
 
 fn told(pair: &[Drawing; 2], answer: Option<&Answer>) -> String {
@@ -38,8 +37,8 @@ fn given(pieces: &[Piece]) -> String {
     lines.join("\n")
 }
 
-/// Why there is no more, and what the program wrote beyond the pairs.
-fn end(stop: Option<String>, beyond: &[Answer]) -> String {
+/// Why there is no more, and what the program wrote beyond the pairs, if there is any of it.
+fn end(stop: Option<String>, beyond: &[Answer]) -> Option<String> {
     let ended = stop.is_some() && matches!(beyond, [Answer::Ended, ..]);
     let surplus = beyond.len() - usize::from(ended);
     let mut lines: Vec<String> = stop.into_iter().collect();
@@ -49,5 +48,5 @@ fn end(stop: Option<String>, beyond: &[Answer]) -> String {
     if surplus > 0 {
         lines.push(words::surplus(surplus));
     }
-    lines.iter().map(|line| format!("{line}\n")).collect()
+    (!lines.is_empty()).then(|| lines.join("\n") + "\n")
 }

@@ -2,6 +2,9 @@
 
 use peer::frames::{self, frame, FIRST, SECOND};
 use peer::tell::tell;
+use std::io::Write;
+use std::path::Path;
+use std::process::{Command, Stdio};
 
 /// Outlines of 01, and one that crosses itself.
 const S: [i32; 8] = [0, 0, 4, 0, 4, 4, 0, 4];
@@ -29,10 +32,24 @@ B: centre 3, corners 3, 4, 5
 
 Pair 2
 7: the second drawing is not simple
-
 ";
     assert_eq!(told(&input), expected);
     assert_eq!(told(b""), "");
+}
+
+/// The fish of docs/pictures, in the words that the README quotes.
+#[test]
+fn the_fish() {
+    let above = Path::new(concat!(env!("CARGO_MANIFEST_DIR"), "/.."));
+    let Ok(fish) = std::fs::read(above.join("docs/pictures/fish.hex")) else {
+        return;
+    };
+    let words = std::fs::read_to_string(above.join("docs/pictures/fish.txt")).unwrap();
+    assert_eq!(told(&fish), words);
+    let readme = std::fs::read_to_string(above.join("README.md")).unwrap();
+    for line in words.lines() {
+        assert!(readme.contains(line), "README.md lacks: {line}");
+    }
 }
 
 #[test]
@@ -52,15 +69,37 @@ fn the_run_ends() {
 fn answers_that_are_none() {
     let input = pair(&S, &S);
     for (answers, words) in [
-        ("", "There is no answer to this pair.\n\n"),
-        ("EF\n", "EF: the program ended the run here.\n\n"),
-        ("A0\n", "This is no answer: A0\n\n"),
-        ("A0020300000102\n", "This is no answer: A0020300000102\n\n"),
-        ("A0010300000102\n", "The answer does not fit the pair.\n\n"),
+        ("", "There is no answer to this pair.\n"),
+        ("EF\n", "EF: the program ended the run here.\n"),
+        ("A0\n", "This is no answer: A0\n"),
+        ("A0020300000102\n", "This is no answer: A0020300000102\n"),
+        ("A0010300000102\n", "The answer does not fit the pair.\n"),
         ("E001\nE001\n", "1: a list has odd length, "),
     ] {
         let told = tell(&input, answers.as_bytes());
         assert!(told.starts_with(&format!("Pair 1\n{words}")), "{told}");
     }
     assert!(tell(&input, b"E001\nE001\n").ends_with("\n\nThe answers go on for 1 line more.\n"));
+}
+
+/// The program: frames on standard input, answers from a file, the words on standard output.
+#[test]
+fn the_program() {
+    let answers = Path::new(env!("CARGO_TARGET_TMPDIR")).join("answers to tell");
+    std::fs::write(&answers, "E009\n").unwrap();
+    let run = |words: &[&str]| {
+        let mut command = Command::new(env!("CARGO_BIN_EXE_tell"));
+        command.args(words).stdin(Stdio::piped()).stdout(Stdio::piped()).stderr(Stdio::piped());
+        let mut child = command.spawn().unwrap();
+        // A program that does not like its words ends without reading.
+        let _ = child.stdin.take().unwrap().write_all(&pair(&S, &S));
+        let output = child.wait_with_output().unwrap();
+        (output.status.code(), String::from_utf8(output.stdout).unwrap())
+    };
+    let words = "Pair 1\n9: no valid cutting exists\n";
+    assert_eq!(run(&["--answers", answers.to_str().unwrap()]), (Some(0), words.into()));
+    assert_eq!(run(&["--answers", "no such file"]), (Some(1), String::new()));
+    for words in [&[][..], &["--answers"], &["answers"], &["--answers", "a", "b"]] {
+        assert_eq!(run(words), (Some(2), String::new()));
+    }
 }

@@ -1,6 +1,7 @@
 //! Drawings that are taken, as they are written.
 
 use crate::{entered, pair, svg, Wishes, PLAIN, POLYGON, TRIANGLE};
+use peer::drawing::MOST_CORNERS;
 
 /// The frames of an element beside the triangle, without a remark.
 fn assert_triangle(element: &str) {
@@ -100,7 +101,8 @@ fn rounding_is_told() {
     let input = format!("{first}\n{second}");
     let found = entered(&input, PLAIN);
     assert_eq!(found.frames, pair(&[0, 0, 5, 0, 0, 3], &TRIANGLE));
-    let words = "rounded: 3 of 12 coordinates, by up to 0.5, the first on line 2; --scale makes the grid finer";
+    let words = "rounded: 3 of 12 coordinates, by up to 0.5, the first on line 2; \
+                 --scale makes the grid finer";
     assert_eq!(found.remarks, [words]);
     let finer = entered(&input, Wishes { scale: 4, ..PLAIN });
     assert_eq!(finer.frames, pair(&[0, 0, 18, -2, 1, 12], &[0, 0, 16, 0, 0, 12]));
@@ -131,4 +133,11 @@ fn the_whole_range() {
     let text = "-1 -1\n1 -1\n1 1\n";
     let found = entered(&format!("{text}\n{text}"), Wishes { scale: 1_000_000, ..PLAIN });
     assert_eq!(found.frames, pair(&far, &far));
+}
+
+#[test]
+fn the_most_corners() {
+    let bowl: Vec<i32> = (0..MOST_CORNERS as i32).flat_map(|k| [k, k * k]).collect();
+    let text: String = bowl.chunks(2).map(|c| format!("{} {}\n", c[0], c[1])).collect();
+    assert_eq!(entered(&format!("{text}\n{text}"), PLAIN).frames, pair(&bowl, &bowl));
 }

@@ -1,6 +1,7 @@
 //! Inputs that cannot be taken: the line and the reason.
 
 use crate::{refused, svg, Wishes, PLAIN, POLYGON};
+use peer::drawing::{FEWEST_CORNERS, MOST_CORNERS};
 
 /// The reason for an element on line 2 of a file with a sound drawing beside it.
 fn element(element: &str) -> String {
@@ -187,16 +188,17 @@ fn texts_that_are_no_coordinates() {
 }
 
 /// A drawing of so many corners on a parabola.
-fn bowl(n: i32) -> String {
+fn bowl(n: usize) -> String {
     (0..n).map(|k| format!("{k} {}\n", k * k)).collect()
 }
 
 #[test]
 fn drawings_of_other_counts() {
-    let allowed = "corners: 3 to 64 can be taken";
+    let (few, many) = (FEWEST_CORNERS - 1, MOST_CORNERS + 1);
+    let allowed = format!("corners: {FEWEST_CORNERS} to {MOST_CORNERS} can be taken");
     for (first, second, reason) in [
-        (2, 2, format!("line 1: the first drawing has 2 {allowed}")),
-        (64, 65, format!("line 66: the second drawing has 65 {allowed}")),
+        (few, few, format!("line 1: the first drawing has {few} {allowed}")),
+        (3, many, format!("line 5: the second drawing has {many} {allowed}")),
         (3, 4, "line 5: the first drawing has 3 corners and the second 4".into()),
     ] {
         assert_eq!(refused(&format!("{}\n{}", bowl(first), bowl(second)), PLAIN), reason);
