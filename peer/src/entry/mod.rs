@@ -1,5 +1,5 @@
 //! Entering a drawing: the frames of a pair from an SVG file or from a plain text of coordinates.
-//! Nothing is guessed: what cannot be taken as it stands is refused, with its line.
+//! What is drawn is taken as it stands, or it is refused, with its line.
 //!
 //! `cursor` reads on and names places, `number` reads numbers exactly; `xml` reads tags, `svg` finds
 //! outlines among them and `outline` reads one; `text` reads the plain form; `grid` rounds, and

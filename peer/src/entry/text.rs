@@ -10,18 +10,14 @@ pub fn outlines(input: &str) -> Result<[Outline; 2], Refusal> {
     let mut between = true;
     let mut at = 0;
     for line in input.split_inclusive('\n') {
-        let point = point(input, at, line)?;
-        match point {
-            None => between = true,
-            Some(point) => {
-                if between && outlines.len() == 2 {
-                    return refuse(at, "a third drawing: there must be two");
-                }
-                if between {
-                    outlines.push(Outline { points: Vec::new(), at });
-                    between = false;
-                }
-                outlines.last_mut().expect("one was begun").points.push(point);
+        let begun = outlines.len();
+        match (point(input, at, line)?, outlines.last_mut()) {
+            (None, _) => between = true,
+            (Some(point), Some(drawing)) if !between => drawing.points.push(point),
+            (Some(_), _) if begun == 2 => return refuse(at, "a third drawing: there must be two"),
+            (Some(point), _) => {
+                outlines.push(Outline { points: vec![point], at });
+                between = false;
             }
         }
         at += line.len();
