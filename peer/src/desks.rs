@@ -63,8 +63,11 @@ impl Desk for Peer {
     fn cut(&self, n: usize, first: &[u8], second: &[u8], room: &mut [u8]) -> Outcome {
         let corners = FEWEST_CORNERS..=MOST_CORNERS;
         let cells = first.len().min(second.len());
-        if !corners.contains(&n) || cells < CELLS || room.len() < needed_room(n) {
+        if !corners.contains(&n) || cells < CELLS {
             return refused(1);
+        }
+        if room.len() < needed_room(n) {
+            return refused(2);
         }
         let [first, second] =
             [first, second].map(|cells| Sight::from_cells(n, |i, j| cells[i * ROW + j] != 0));

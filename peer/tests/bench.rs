@@ -55,7 +55,7 @@ fn many_lines_of_the_wall_touch_a_third_corner() {
 #[test]
 fn a_program_that_answers_too_little_has_no_rate() {
     let runs: Vec<Run> = vec![Box::new(frames::run), Box::new(|_| Vec::new())];
-    let input = include_bytes!("../data/fig8.hex");
+    let input = include_bytes!("../../crates/test_wire/data/fig8.hex");
     let rates = rates(2, &runs, input);
     assert!(rates[0].is_some_and(|rate| rate > 0.0) && rates[1].is_none(), "{rates:?}");
 }

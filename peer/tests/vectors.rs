@@ -1,58 +1,52 @@
-//! The peer on recorded answers (data/README.md) and on the outlines of 01.
+//! The peer on recorded answers and on the outlines of 01.
+
+mod recorded;
 
 use peer::desk::{self, Outcome};
+use peer::desks::{Desk, Peer};
 use peer::drawing::{corners, judge, sight, Judged};
 use peer::frames;
+use recorded::{Frames, BIG, EDGE, FIG8, MID, SMALL};
 
-macro_rules! data {
-    ($name:literal) => {
-        include_str!(concat!("../data/", $name))
-    };
-}
-
-fn same_output(input: &str, output: &str) {
-    let written = String::from_utf8(frames::run(input.as_bytes())).unwrap();
-    for (k, (line, expected)) in written.lines().zip(output.lines()).enumerate() {
+fn same_output(recorded: &Frames) {
+    let written = String::from_utf8(frames::run(recorded.input.as_bytes())).unwrap();
+    for (k, (line, expected)) in written.lines().zip(recorded.output.lines()).enumerate() {
         assert_eq!(line, expected, "pair {k}");
     }
-    assert_eq!(written, output);
+    assert_eq!(written, recorded.output);
 }
 
 #[test]
 fn frames_of_few_corners() {
-    same_output(data!("small.hex"), data!("small.out"));
+    same_output(&SMALL);
 }
 
 #[test]
 fn frames_of_more_corners() {
-    same_output(data!("mid.hex"), data!("mid.out"));
+    same_output(&MID);
 }
 
 #[test]
 fn frames_of_many_corners() {
-    same_output(data!("big.hex"), data!("big.out"));
+    same_output(&BIG);
 }
 
 #[test]
 fn frames_of_corner_cases() {
-    same_output(data!("edge.hex"), data!("edge.out"));
+    same_output(&EDGE);
 }
 
 #[test]
 fn frames_on_which_figure_8_fails() {
-    same_output(data!("fig8.hex"), data!("fig8.out"));
-}
-
-fn bytes(hexadecimal: &str) -> Vec<u8> {
-    let byte = |k: usize| u8::from_str_radix(&hexadecimal[k..k + 2], 16).unwrap();
-    (0..hexadecimal.len()).step_by(2).map(byte).collect()
+    same_output(&FIG8);
 }
 
 #[test]
 fn malformed_inputs() {
-    for line in data!("malformed.txt").lines() {
-        let parts: Vec<&str> = line.split('\t').collect();
-        assert_eq!(frames::run(&bytes(parts[1])), bytes(parts[2]), "{}", parts[0]);
+    let inputs = recorded::malformed();
+    assert_eq!(inputs.len(), 110);
+    for whole in inputs {
+        assert_eq!(frames::run(whole.input), whole.output, "{}", whole.name);
     }
 }
 
@@ -67,10 +61,6 @@ fn long_lines() {
     }
 }
 
-fn numbers(text: &str) -> Vec<i32> {
-    text.split_whitespace().map(|word| word.parse().unwrap()).collect()
-}
-
 /// The outcome of a call, and its room afterwards where it was not what it had been.
 fn call(first: &[i32], second: &[i32], room: usize) -> (Outcome, Vec<u8>) {
     let before: Vec<u8> = (0..room).map(|k| (7 * k + 3) as u8).collect();
@@ -83,40 +73,51 @@ fn call(first: &[i32], second: &[i32], room: usize) -> (Outcome, Vec<u8>) {
 
 #[test]
 fn calls_with_any_lists_and_room() {
-    for line in data!("calls.txt").lines() {
-        let parts: Vec<&str> = line.split('\t').collect();
-        let (first, second) = (numbers(parts[0]), numbers(parts[1]));
-        let (outcome, used) = call(&first, &second, parts[2].parse().unwrap());
-        let expected: Vec<&str> = parts[3].splitn(4, ' ').collect();
-        assert_eq!(outcome.number.to_string(), expected[0], "{line}");
-        assert_eq!(outcome.pieces.to_string(), expected[1], "{line}");
-        assert_eq!(outcome.bytes.to_string(), expected[2], "{line}");
-        assert_eq!(used, bytes(expected[3]), "{line}");
+    let calls = recorded::calls();
+    assert_eq!(calls.len(), 22 + 289);
+    for recorded in calls {
+        let (outcome, used) = call(&recorded.first, &recorded.second, recorded.room);
+        assert_eq!(outcome.number, recorded.number, "{}", recorded.name);
+        assert_eq!(outcome.pieces, recorded.pieces, "{}", recorded.name);
+        assert_eq!(used, recorded.bytes, "{}", recorded.name);
+    }
+}
+
+#[test]
+fn cuttings_of_tables() {
+    let cuttings = recorded::cuttings();
+    assert_eq!(cuttings.len(), 27);
+    for recorded in cuttings {
+        let mut room = vec![250; recorded.room];
+        let outcome = Peer.cut(recorded.corners, &recorded.first, &recorded.second, &mut room);
+        assert_eq!(outcome.number, recorded.number, "{}", recorded.name);
+        assert_eq!(outcome.pieces, recorded.pieces, "{}", recorded.name);
+        assert_eq!(room[..outcome.bytes], recorded.bytes, "{}", recorded.name);
     }
 }
 
 #[test]
 fn judgements_and_sight() {
-    for line in data!("sight.txt").lines() {
-        let words: Vec<&str> = line.split_whitespace().collect();
-        let n: usize = words[0].parse().unwrap();
-        let drawing = corners(&numbers(&words[1..=2 * n].join(" ")));
+    let sights = recorded::sights();
+    assert_eq!(sights.len(), 646);
+    for recorded in sights {
+        let drawing = corners(&recorded.drawing);
         let judged = match judge(&drawing) {
             Judged::Sound => "sound",
             Judged::OutOfRange => "out-of-range",
             Judged::NotSimple => "not-simple",
             Judged::NotAnticlockwise => "not-anticlockwise",
         };
-        assert_eq!(judged, words[2 * n + 1], "{line}");
-        let rows = &words[2 * n + 2..];
-        if judged == "out-of-range" {
+        assert_eq!(judged, recorded.judgement, "{:?}", recorded.drawing);
+        let n = if judged == "out-of-range" { 0 } else { drawing.len() };
+        assert_eq!(recorded.rows.len(), n);
+        if n == 0 {
             continue;
         }
-        assert_eq!(rows.len(), n);
         let seen = sight(&drawing);
-        for (i, row) in rows.iter().enumerate() {
+        for (i, row) in recorded.rows.iter().enumerate() {
             let cells = (0..n).map(|j| if seen.sees(i, j) { '1' } else { '0' });
-            assert_eq!(*row, cells.collect::<String>(), "row {i} of {line}");
+            assert_eq!(*row, cells.collect::<String>(), "row {i} of {:?}", recorded.drawing);
         }
     }
 }

@@ -1,137 +1,146 @@
--- What was told of finished tables is the answer: the first smallest cutting of the caller's cells, its bytes and its counts; or there is no valid
--- cutting.
-use mathlib.Core.Path.{_≡_, refl, sym, subst, ap, _∙_}
-use mathlib.Core.Logic.{inr, _↔_}
+-- From the set that was found to the promise: the readings say what the caller's cells say, and the cells are what the
+-- set says.
+use mathlib.Core.Path.{_≡_, refl, sym, ap, subst, _∙_}
+use mathlib.Core.Bool.{Bool, true, false}
+use mathlib.Core.Logic.{inl, inr, _↔_}
 use mathlib.Core.List.{List, _++_}
 use Prim.Native.Nat.{ℕ, zero, suc, _+_, _-_, _*_, _<_, _≤_}
-use native.Mathlib.Nat.{zero-add}
 use native.Mathlib.Omega.{arith}
 use native.Mathlib.Decide.{decLt}
-use lib.Dec.{T, eqb, eqb→eq}
-use lib.ListN.{length, getD, drop}
-use Rattle.rules.specs.Lists.{In}
-use Rattle.rules.specs.Cutting.{Pairs, Inner, Region, First, pieces, one}
-use Rattle.rules.specs.Centre.{HasCentre, Layout, layout-size}
-use Rattle.rules.specs.Regions.{pieces-regions}
-use Rattle.rules.specs.Count.{room-enough}
-use Rattle.rules.specs.Agree.{has-centre-map, layout-same, valid-same, answer-same}
-use Rattle.rules.specs.Uses.{uses}
-use Rattle.rules.specs.Table.{Table, grown}
-use Rattle.rules.specs.Answer.{table-first, table-refuses, table-count}
-use Rattle.rules.specs.Lays.{Seen, lays, lays-layout}
-use Rattle.cutting.specs.declared.Outcome.{Outcome}
-use Rattle.cutting.specs.declared.Outcome.the-variants.{Refused, NoCutting, Found}
-use Rattle.cutting.specs.Sizes.{none}
-use Rattle.cutting.specs.Tables.{at2, Sees, May, Solved}
-use Rattle.cutting.specs.Choice.{choiceOf}
-use Rattle.cutting.specs.Told.{seen, put, tellOf, Open, Told, Veiled}
-use Rattle.cutting.specs.Answer.{Sight, Served, Answers}
-use Rattle.cutting.proofs.Small.{min-low}
-use Rattle.cutting.proofs.Picks.{table, best-of}
+use lib.Dec.{T}
+use lib.ListN.{length, getD, take, drop, take-append-drop, List·getD-eq-default, List·getD-append}
+use lib.Seq.{length-take-le, length-front, getD-append-add, getD-drop}
+use Rattle.limits.specs.Limits.{fewest-corners, most-corners, row, all-cells, place}
+use Rattle.rules.specs.Cutting.{Pairs, Inner}
+use Rattle.rules.specs.Cells.{cell, InBoth, marked, marked-cell, marked-same}
+use Rattle.rules.specs.Plan.{stars, FirstBy}
+use Rattle.rules.specs.Refusals.{FirstFailed}
+use Rattle.rules.specs.Agree.{Agree, stars-agree, valid-same, first-same}
+use Rattle.rules.specs.Ways.{Sees}
+use Rattle.cutting.specs.declared.Searched.{Searched}
+use Rattle.cutting.specs.declared.Searched.the-variants.{Unserved, NoCutting, Found}
+use Rattle.cutting.specs.Answer.{MayCut, plan, Served, asked, bit, Marks, number, Searches}
+use Rattle.cutting.specs.Rows.{none, Cut, Veil, Read, Filled}
+use Rattle.cutting.specs.Marks.{Ticks, Solves, Drawn}
+use Rattle.cutting.proofs.Marking.{marked-says, ticks-marked}
+use Rattle.cutting.proofs.Finds.{refuses}
 
--- ---- the cutting that the tables of the corners 0 .. m choose
-abbrev cuttingOf : List ℕ → List ℕ → ℕ → Pairs
-cuttingOf val road m = uses 0 (grown (choiceOf val road) 0 m)
+-- ---- the readings
+module _ {first second cuts veil : List ℕ} {n : ℕ} (read : Read first second cuts veil n n) where
+  same-sight : (x y : ℕ) → x < n → y < n → Sees (cell veil) x y ↔ InBoth first second x y
+  same-sight x y p q = let b = read .at x y p q in (b .lifted, b .clear)
 
--- `Sees`, and computed
-test : (veil : List ℕ) (x y : ℕ) → Sees veil x y ↔ Seen (seen veil) x y
-test veil x y = (λ e. subst (λ (k : ℕ). T (eqb k 0)) (sym e) tt, λ t. eqb→eq (at2 veil y x) 0 t)
+  same-cuts : (a b : ℕ) → Inner n a b → Cut cuts a b ↔ MayCut first second a b
+  same-cuts a b i = let z = read .at a b (omega (arith, i .rises, i .small)) (i .small) in (z .uncut, z .cut)
 
-module _ {veil val road : List ℕ} {m : ℕ} (big : 2 ≤ m) (solved : Solved veil val road (suc m)) where
-  tab : Table (Sees veil) (HasCentre (Sees veil)) one (May val) (at2 val) (choiceOf val road) (suc m)
-  tab = table solved
+  pub finished : {val left right before : List ℕ} → Served n first second before → Filled cuts veil val left right n n →
+      ¬ (cell val 0 (n - 1) ≡ none) → Solves cuts veil val left right n
+  finished s f h = record { three = s .fewest; small = s .most; filled = f; has = h }
 
-  pub chosen-first : May val 0 m → First (Sees veil) (HasCentre (Sees veil)) one (suc m) (cuttingOf val road m)
-  chosen-first h = table-first big tab h .0
+  agree : Agree n (stars (Cut cuts) (Sees (cell veil))) (plan first second)
+  agree = stars-agree same-cuts same-sight
 
-  pub chosen-count : May val 0 m → at2 val 0 m ≡ length (pieces (suc m) (cuttingOf val road m))
-  chosen-count h = sym (ap length (table-first big tab h .1) ∙ table-count big tab h)
+  -- ---- the three ends
+  pub searches-none : {val left right before : List ℕ} → Served n first second before →
+      Filled cuts veil val left right n n → cell val 0 (n - 1) ≡ none → Searches n first second before before NoCutting
+  searches-none s f e = record {
+    numbered =
+        inr (
+          s,
+          inl (
+            (λ c. refuses (read .veils) (s .fewest) (s .most) f e (c .0) (valid-same agree (c .0) .1 (c .1))),
+            refl,
+          ),
+        );
+    kept = λ lt. refl;
+    found = λ z. absurd (omega (arith, z));
+  }
 
-  region : May val 0 m → (S : List ℕ) → In S (pieces (suc m) (cuttingOf val road m)) → Region (suc m) (cuttingOf val road m) S
-  region h S i = pieces-regions (suc m) (cuttingOf val road m) (omega arith) (chosen-first h .valid .uncrossed) S .0 i
-
-  pub chosen-layout : May val 0 m → Layout (Seen (seen veil)) (pieces (suc m) (cuttingOf val road m)) (tellOf veil val road 0 m)
-  unfolding tellOf
-  chosen-layout h =
-      subst (λ l. Layout (Seen (seen veil)) (pieces (suc m) (cuttingOf val road m)) (lays (seen veil) l)) (table-first big tab h .1)
-      (lays-layout (seen veil) (pieces (suc m) (cuttingOf val road m)) (λ S i. region h S i .rising)
-      (λ S i. has-centre-map (λ x y p q. test veil x y .0) S (region h S i .small) (chosen-first h .valid .allowed S (region h S i))))
-
-  pub tell-room : May val 0 m → length (tellOf veil val road 0 m) + 10 ≤ 5 * suc m
-  tell-room h =
-      omega (
-        arith,
-        layout-size (Seen (seen veil)) (pieces (suc m) (cuttingOf val road m)) (tellOf veil val road 0 m) (chosen-layout h),
-        room-enough (suc m) (cuttingOf val road m) (omega arith) (chosen-first h .valid .uncrossed),
-      )
-
--- ---- the line from the first of n corners to the last
-module _ {veil val road : List ℕ} {n : ℕ} (three : 3 ≤ n) (solved : Solved veil val road n) where
-  closing : suc (n - 1) ≡ n
-  closing = omega arith
-
-  pub top-is : getD val (n - 1) 0 ≡ at2 val 0 (n - 1)
-  top-is = ap (λ (k : ℕ). getD val k 0) (sym (zero-add (n - 1)))
-
-  pub top-may : ¬ (getD val (n - 1) 0 ≡ none) → May val 0 (n - 1)
-  top-may h = go (decLt (at2 val 0 (n - 1)) none)
+  pub searches-found : {before after : List ℕ} → Served n first second before → length before ≡ all-cells →
+      Drawn cuts veil n after → Searches n first second before after Found
+  searches-found {before} {after} s size d =
+      let f = first-same agree (marked after) (d .first) in
+      record {
+        numbered = inr (s, inr ((marked after, f .valid), refl));
+        kept = λ lt. absurd (omega (arith, lt));
+        found = λ z. record {
+          is-first = f;
+          cells = λ a b ar br. is a b ar br (marked after a b) refl;
+          size = d .ticks .size ∙ sym size;
+          beyond = λ k h. past k h after (d .ticks .size) ∙ sym (past k h before size);
+        };
+      }
     where
-      most : at2 val 0 (n - 1) ≤ none
-      most = min-low _ _ _ _ (best-of solved 0 (n - 1) (omega arith) (omega arith) (inr (refl, closing)) .is) .3
+      past : (k : ℕ) → all-cells ≤ k → (l : List ℕ) → length l ≡ all-cells → getD l k 0 ≡ 0
+      past k h l e = List·getD-eq-default l 0 {n = k} (omega arith)
 
-      go : Dec (at2 val 0 (n - 1) < none) → May val 0 (n - 1)
-      go (yes p) = p
-      go (no p) = absurd (h (omega (arith, top-is, most)))
+      is : (a b : ℕ) → a < row → b < row → (m : Bool) → marked after a b ≡ m → cell after a b ≡ bit m
+      is a b ar br true e = omega (arith, d .ticks .bits (place a b), marked-says after a b (subst T (sym e) tt) .2)
+      is a b ar br false e = zero (decLt 0 (cell after a b))
+        where
+          zero : Dec (0 < cell after a b) → cell after a b ≡ 0
+          zero (no h) = omega arith
+          zero (yes h) = absurd (subst T e (ticks-marked a b (d .ticks) ar br (λ k. omega arith)))
 
-  pub top-none : getD val (n - 1) 0 ≡ none → ¬ May val 0 (n - 1)
-  top-none e h = omega (arith, top-is)
+pub searches-not : {n : ℕ} {first second before : List ℕ} → ¬ Served n first second before →
+    Searches n first second before before Unserved
+searches-not h = record { numbered = inl (h, refl); kept = λ lt. refl; found = λ z. absurd (omega (arith, z)) }
 
-  pub top-open : May val 0 (n - 1) → Open veil val road 0 (n - 1)
-  top-open h = record { n = n; solved = solved; rises = omega arith; small = omega arith; stands = inr (h, inr (refl, closing)) }
+-- ---- the first part of the array is searched into, the rest stays
+pub part-size : (before : List ℕ) → all-cells ≤ length before → length (take all-cells before) ≡ all-cells
+part-size before h = length-take-le all-cells before h
 
-  pub top-room : May val 0 (n - 1) → length (tellOf veil val road 0 (n - 1)) + 10 ≤ 5 * n
-  top-room h = omega (arith, tell-room (omega arith) (subst (Solved veil val road) (sym closing) solved) h)
+pub served-part : {n : ℕ} {first second before : List ℕ} → Served n first second before →
+    Served n first second (take all-cells before) × (length (take all-cells before) ≡ all-cells)
+served-part {before} s =
+    let e = part-size before (s .pairs-cells) in (
+      record {
+        fewest = s .fewest;
+        most = s .most;
+        first-cells = s .first-cells;
+        second-cells = s .second-cells;
+        pairs-cells = omega (arith, e);
+      },
+      e,
+    )
 
--- ---- the veil says what the cells say
-module _ (first second veil : List ℕ) (n : ℕ) (veiled : Veiled first second veil n n) where
-  both : (x y : ℕ) → x < n → y < n → Sees veil x y ↔ Sight first second x y
-  both x y p q = let s = veiled .at x y p q in (s .both, λ k. s .clear (k .0) (k .1))
-
-pub answers : (n : ℕ) {first second veil val road before : List ℕ} (after : List ℕ) (r : Outcome) →
-    Served n first second before → Veiled first second veil n n → Solved veil val road n →
-    Told veil val road (n - 1) before after r → Answers n first second before after r
-unfolding put
-answers zero after r served veiled solved t = absurd (omega (arith, served .three))
-answers (suc m) {first} {second} {veil} {val} {road} {before} after r served veiled solved t =
-    let e : suc m - 1 ≡ m = omega arith in
-    go r (subst (λ (k : ℕ). Told veil val road k before after r) e t)
+pub searches-part : {n : ℕ} {first second before part : List ℕ} {r : Searched} → Served n first second before →
+    length part ≡ all-cells → Searches n first second (take all-cells before) part r →
+    Searches n first second before (part ++ drop all-cells before) r
+searches-part {n} {first} {second} {before} {part} {r} s size p = record {
+  numbered = lines (p .numbered);
+  kept = λ lt. ap (λ (l : List ℕ). l ++ drop all-cells before) (p .kept lt) ∙ take-append-drop all-cells before;
+  found = λ z. marks (p .found z);
+}
   where
-    big : 2 ≤ m
-    big = omega (arith, served .three)
+    lines : FirstFailed (asked n first second (take all-cells before)) (number r) →
+        FirstFailed (asked n first second before) (number r)
+    lines (inl f) = absurd (f .0 (served-part s .0))
+    lines (inr f) = inr (s, f .1)
 
-    same : (x y : ℕ) → x < suc m → y < suc m → Sees veil x y ↔ Sight first second x y
-    same = both first second veil (suc m) veiled
+    front : (k : ℕ) → k < all-cells → getD (part ++ drop all-cells before) k 0 ≡ getD part k 0
+    front k h = List·getD-append part (drop all-cells before) 0 k (omega arith)
 
-    tested : (x y : ℕ) → x < suc m → y < suc m → Seen (seen veil) x y ↔ Sight first second x y
-    tested x y p q = (λ k. same x y p q .0 (test veil x y .1 k), λ k. test veil x y .0 (same x y p q .1 k))
+    same : marked (part ++ drop all-cells before) ≡ marked part
+    same =
+        marked-same (part ++ drop all-cells before) (marked part)
+        (λ a b. marked-cell (part ++ drop all-cells before) part a b (λ w q. front (place a b) (omega arith)))
 
-    cuts : (a b : ℕ) → Inner (suc m) a b → Sees veil a b ↔ Sight first second a b
-    cuts a b i = same a b (omega (arith, i .rises, i .small)) (i .small)
+    behind : (k : ℕ) → all-cells ≤ k → getD (part ++ drop all-cells before) k 0 ≡ getD before k 0
+    behind k h =
+        let e : length part + (k - all-cells) ≡ k = omega arith in
+        let f : all-cells + (k - all-cells) ≡ k = omega arith in
+        subst (λ (m : ℕ). getD (part ++ drop all-cells before) m 0 ≡ getD before k 0) e
+        (getD-append-add part (drop all-cells before) (k - all-cells) 0
+        ∙ getD-drop all-cells before (k - all-cells) 0
+        ∙ ap (λ (m : ℕ). getD before m 0) f)
 
-    go : (r : Outcome) → Told veil val road m before after r → Answers (suc m) first second before after r
-    go Refused t = absurd t
-    go NoCutting t = (served, (λ C va. t .0 (table-refuses big (tab big solved) C (valid-same same cuts C .1 va))), t .1)
-    go (Found count bytes) t =
-        let h = t .0 in
-        let l : List ℕ = tellOf veil val road 0 m in (
-          served,
-          record {
-            cutting = cuttingOf val road m;
-            told = l;
-            is-first = answer-same same cuts one (cuttingOf val road m) (chosen-first big solved h);
-            layout = layout-same tested (pieces (suc m) (cuttingOf val road m)) l (λ S i. region big solved h S i .small) (chosen-layout big solved h);
-            pieces-are = t .2 ∙ chosen-count big solved h;
-            bytes-are = t .1 .past ∙ zero-add (length l);
-            buffer = t .1 .now ∙ ap (λ (k : ℕ). l ++ drop k before) (zero-add (length l));
-          },
-        )
+    marks : Marks n first second (take all-cells before) part →
+        Marks n first second before (part ++ drop all-cells before)
+    marks m = record {
+      is-first = subst (λ (C : Pairs). FirstBy (plan first second) n C) (sym same) (m .is-first);
+      cells = λ a b ar br.
+          front (place a b) (omega arith) ∙ m .cells a b ar br ∙ ap (λ (C : Pairs). bit (C a b)) (sym same);
+      size = length-front before part all-cells (m .size);
+      beyond = behind;
+    }

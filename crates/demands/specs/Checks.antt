@@ -1,13 +1,14 @@
--- Checks, computed: of every member of a list; and in an order, the number of the first that fails, against `FirstFailed` of the statement.
+-- Checks, computed: of every member of a list; and in an order, the number of the first that fails, against
+-- `FirstFailed` of `rules`.
 use mathlib.Core.Path.{_≡_, refl, sym, subst}
 use mathlib.Core.Bool.{Bool, true, false}
 use mathlib.Core.Logic.{inl, inr}
 use mathlib.Core.List.{List, [], _∷_}
-use Prim.Native.Nat.{ℕ, suc}
+use Prim.Native.Nat.{ℕ}
 use lib.Dec.{T}
 use Rattle.drawing.specs.Tells.{Tells}
 use Rattle.rules.specs.Lists.{In}
-use Rattle.desk.specs.Answer.{FirstFailed}
+use Rattle.rules.specs.Refusals.{Line, line, FirstFailed}
 
 -- ---- one test of every member
 module _ {A : Type 0} (p : A → Bool) where
@@ -25,29 +26,26 @@ module _ {A : Type 0} (p : A → Bool) where
       go true e h (inr i) f = f h x i
       go false e h i f = absurd h
 
--- ---- checks in an order
+-- ---- checks in an order, each with its number
 -- Each waits under a λ: none is computed after the first that fails.
 abbrev pub Check : Type 0
-Check = Unit {0} → Bool
+Check = ℕ × (Unit {0} → Bool)
 
-abbrev pub first-failed : ℕ → List Check → ℕ
-first-failed i [] = 0
-first-failed i (b ∷ l) = elim (b tt) as (λ x. ℕ) [ true ↦ first-failed (suc i) l | false ↦ i ]
+abbrev pub first-failed : List Check → ℕ
+first-failed [] = 0
+first-failed (c ∷ l) = elim (c .1 tt) as (λ x. ℕ) [ true ↦ first-failed l | false ↦ c .0 ]
 
--- the checks tell what is asked, each where all before it hold
-abbrev pub Checked : List Check → List (Type 0) → Type 0
-Checked [] [] = Unit {0}
-Checked [] (Q ∷ m) = ⊥
-Checked (b ∷ l) [] = ⊥
-Checked (b ∷ l) (Q ∷ m) = Tells (b tt) Q × (Q → Checked l m)
+-- the checks tell what the lines ask, each where all before it hold
+pub data Checked : List Check → List Line → Type 1 where
+  end : Checked [] []
+  then : {test : Unit {0} → Bool} {P : Type 0} {i : ℕ} {k : List Check} {l : List Line} → Tells (test tt) P → (P → Checked k l) →
+      Checked ((i, test) ∷ k) (line i P ∷ l)
 
-pub failed-is : (i : ℕ) (l : List Check) (m : List (Type 0)) → Checked l m → FirstFailed i m (first-failed i l)
-failed-is i [] [] c = refl
-failed-is i [] (Q ∷ m) c = absurd c
-failed-is i (b ∷ l) [] c = absurd c
-failed-is i (b ∷ l) (Q ∷ m) c = go (b tt) (c .0) (λ q. failed-is (suc i) l m (c .1 q))
+pub failed-is : {k : List Check} {l : List Line} → Checked k l → FirstFailed l (first-failed k)
+failed-is end = refl
+failed-is (then {test} {P} {i} {k} {l} t rest) = go (test tt) t (λ q. failed-is (rest q))
   where
-    go : (a : Bool) → Tells a Q → (Q → FirstFailed (suc i) m (first-failed (suc i) l)) →
-        FirstFailed i (Q ∷ m) (elim a as (λ x. ℕ) [ true ↦ first-failed (suc i) l | false ↦ i ])
+    go : (a : Bool) → Tells a P → (P → FirstFailed l (first-failed k)) →
+        FirstFailed (line i P ∷ l) (elim a as (λ x. ℕ) [ true ↦ first-failed k | false ↦ i ])
     go true t f = let q = t .sure tt in inr (q, f q)
     go false t f = inl (t .told, refl)

@@ -1,22 +1,31 @@
--- Demand 3, the first part: exchanging the drawings. Where both are sound the answer is the same: number, counts and every byte. Where one
--- is sound and the other need not be, 3, 4, 5 turn into 6, 7, 8 and back, and all else is the same.
--- 01, "What comes back": "exchanging the drawings turns 3, 4, 5 into 6, 7, 8 when just one drawing is unsound; with both unsound nothing
--- is said."
-use mathlib.Core.Path.{_≡_, refl, _∙_, ap}
+-- Demand 3, the first part: exchanging the drawings. Where both are sound the answer is the same: number, counts and
+-- every byte. Where one is sound and the other need not be, 3, 4, 5 turn into 6, 7, 8 and back, and all else is the
+-- same. 01, "What comes back": "exchanging the drawings turns 3, 4, 5 into 6, 7, 8 when just one drawing is unsound;
+-- with both unsound nothing is said."
+use mathlib.Core.Path.{_≡_, refl, ap}
 use mathlib.Core.Bool.{Bool, true, false, cond}
-use mathlib.Core.Logic.{_⊎_, inl, inr, ⊎-map}
-use mathlib.Core.List.{List, [], _∷_, map}
-use Prim.Native.Nat.{ℕ, suc, _+_, _-_, _≤_}
+use mathlib.Core.Logic.{_⊎_, ⊎-map, _↔_}
+use mathlib.Core.List.{List, [], _∷_, _++_}
+use Prim.Native.Nat.{ℕ, _+_, _-_, _≤_, _<_}
 use native.Mathlib.Omega.{arith}
+use native.Mathlib.Decide.{decLt}
 use borrow.Author.Tests.{ltb-false}
 use lib.Dec.{ltb}
 use lib.IntN.{ℤ}
 use lib.ListN.{length}
-use Rattle.drawing.specs.Drawing.{Sound}
-use Rattle.desk.specs.Answer.{Alike, of-drawing, of-cutting, asked, FirstFailed, Answers}
-use Rattle.demands.specs.Lines.{sound-passed, sound-put-in}
-use Rattle.demands.specs.SameAnswer.{SameJudged, SameSight, same-cuttable, answers-too, same-answer}
-use Rattle.demands.specs.Program.{Result, Program, IsAnswer, Meets, one-result}
+use Rattle.limits.specs.Limits.{Roomy}
+use Rattle.drawing.specs.Drawing.{corners, Sound}
+use Rattle.pair.specs.Pair.{Alike, of-drawing}
+use Rattle.pair.specs.Passing.{sound-hold}
+use Rattle.rules.specs.Refusals.{Line, line, FirstFailed, SameAsked, end, same, same-failed}
+use Rattle.rules.specs.Result.{Result}
+use Rattle.desk.specs.Answer.{of-cutting, asked, Answers}
+use Rattle.desk.specs.Unique.{answer-unique}
+use Rattle.demands.specs.Entered.{exchanged, exchanged-result}
+use Rattle.demands.specs.Lines.{given-alike, under, either-first, other-numbers}
+use Rattle.demands.specs.SameAnswer.{SameJudged, same-judged, judged, SameSight}
+use Rattle.demands.specs.SameAnswer.{same-cuttable, given-too, same-answer}
+use Rattle.demands.specs.Program.{Program, Meets}
 
 -- ---- the two drawings exchanged
 alike-exchanged : (first second : List ℤ) → Alike first second → Alike second first
@@ -33,36 +42,29 @@ sound-judged d d′ s s′ = record {
 }
 
 -- ---- both drawings sound: the same answer
-pub exchange : (first second : List ℤ) (before after : List ℕ) (number count bytes : ℕ) → Sound first → Sound second →
-    Answers first second before after number count bytes → Answers second first before after number count bytes
-exchange first second before after number count bytes sound-first sound-second =
-    same-answer first second second first before after number count bytes
-    (alike-exchanged first second, alike-exchanged second first)
-    (λ a. sound-judged first second sound-first sound-second)
-    (λ a. sound-judged second first sound-second sound-first)
-    (sight-exchanged first second) .0
+pub exchange : (first second : List ℤ) → Sound first → Sound second → (before : List ℕ) (r : Result) →
+    Answers first second before r → Answers second first before r
+exchange first second sound-first sound-second before r =
+    same-answer first second second first (alike-exchanged first second, alike-exchanged second first)
+    (λ a. record {
+      judged-first = sound-judged first second sound-first sound-second;
+      judged-second = sound-judged second first sound-second sound-first;
+      sight = sight-exchanged first second a;
+    }) before r .0
 
 -- so whatever is given for the one order is given for the other, and by every program that meets the statement
 pub exchange-results : (first second : List ℤ) (before : List ℕ) (r s : Result) → Sound first → Sound second →
-    IsAnswer first second before r → IsAnswer second first before s → s ≡ r
+    Answers first second before r → Answers second first before s → s ≡ r
 exchange-results first second before r s sound-first sound-second h g =
-    one-result second first before s r g
-    (exchange first second before (r .after) (r .number) (r .count) (r .bytes) sound-first sound-second h)
+    answer-unique second first before s r g (exchange first second sound-first sound-second before r h)
 
 pub exchange-program : (p : Program) → Meets p → (first second : List ℤ) (before : List ℕ) → Sound first → Sound second →
     p second first before ≡ p first second before
 exchange-program p m first second before sound-first sound-second =
-    exchange-results first second before (p first second before) (p second first before) sound-first sound-second
+    exchange-results first second before _ _ sound-first sound-second
     (m .answers first second before) (m .answers second first before)
 
--- ---- one drawing sound: 3, 4, 5 and 6, 7, 8 change places, and every other number stays
-abbrev pub exchanged : ℕ → ℕ
-exchanged k = cond (ltb k 3) k (cond (ltb k 6) (k + 3) (cond (ltb k 9) (k - 3) k))
-
--- of 0 to 9
-exchanged-all : map exchanged (0 ∷ 1 ∷ 2 ∷ 3 ∷ 4 ∷ 5 ∷ 6 ∷ 7 ∷ 8 ∷ 9 ∷ []) ≡ 0 ∷ 1 ∷ 2 ∷ 6 ∷ 7 ∷ 8 ∷ 3 ∷ 4 ∷ 5 ∷ 9 ∷ []
-exchanged-all = refl
-
+-- ---- one drawing sound: the number is exchanged, and 0 stays 0
 only-zero : (k : ℕ) → exchanged k ≡ 0 → k ≡ 0
 only-zero k = low (ltb k 3)
   where
@@ -78,67 +80,64 @@ only-zero k = low (ltb k 3)
     low true e = e
     low false e = middle (ltb k 6) refl e
 
--- the lines on a drawing, where they stand elsewhere in the other table
-elsewhere : (d : List ℤ) (l l′ : List (Type 0)) (i j k : ℕ) →
-    exchanged i ≡ j → exchanged (suc i) ≡ suc j → exchanged (suc (suc i)) ≡ suc (suc j) →
-    (FirstFailed (suc (suc (suc i))) l k → FirstFailed (suc (suc (suc j))) l′ (exchanged k)) →
-    FirstFailed i (of-drawing d l) k → FirstFailed j (of-drawing d l′) (exchanged k)
-elsewhere d l l′ i j k p q r rest =
-    ⊎-map (here p) (λ f. (f .0, ⊎-map (here q) (λ g. (g .0, ⊎-map (here r) (λ h. (h .0, rest (h .1))) (g .1))) (f .1)))
-  where
-    here : {P : Type 0} {i j : ℕ} → exchanged i ≡ j → (¬ P) × (k ≡ i) → (¬ P) × (exchanged k ≡ j)
-    here e f = (f .0, ap exchanged (f .1) ∙ e)
-
 module _ (first second : List ℤ) where
-  abbrev old : List (Type 0)
-  old = of-cutting first second
+  -- the table with the numbers exchanged, the second drawing's lines before the first's
+  abbrev between : ℕ → List Line
+  between room =
+      line 1 (Alike first second) ∷ line 2 (Roomy (corners first) room)
+      ∷ (of-drawing 3 4 5 second ++ (of-drawing 6 7 8 first ++ of-cutting first second))
 
-  abbrev new : List (Type 0)
-  new = of-cutting second first
-
-  last-line : Alike first second → (k : ℕ) → FirstFailed 9 old k → FirstFailed 9 new (exchanged k)
-  last-line a k =
-      let c = same-cuttable first second second first (sight-exchanged first second a) in
-      ⊎-map (λ f. (λ x. f .0 (c .1 x), ap exchanged (f .1))) (λ f. (c .0 (f .0), ap exchanged (f .1)))
-
-  later-lines : Alike first second → Sound first ⊎ Sound second → (k : ℕ) →
-      FirstFailed 3 (of-drawing first (of-drawing second old)) k → FirstFailed 3 (of-drawing second (of-drawing first new)) (exchanged k)
-  later-lines a (inl s) k h =
-      elsewhere second old (of-drawing first new) 6 3 k refl refl refl
-      (λ f. sound-put-in first s new 6 (exchanged k) (last-line a k f)) (sound-passed first s (of-drawing second old) 3 k h)
-  later-lines a (inr s) k h =
-      sound-put-in second s (of-drawing first new) 3 (exchanged k)
-      (elsewhere first (of-drawing second old) new 3 6 k refl refl refl (λ f. last-line a k (sound-passed second s old 6 k f)) h)
+  -- asks what is asked of the drawings exchanged
+  between-asked : (room : ℕ) → SameAsked (between room) (asked second first room)
+  between-asked room =
+      same (alike-exchanged first second, alike-exchanged second first) (λ a.
+      let fits : Roomy (corners first) room ↔ Roomy (corners second) room = (omega arith, omega arith) in
+      same fits (λ _. judged 3 4 5 (same-judged second) (judged 6 7 8 (same-judged first)
+      (same (same-cuttable first second second first (sight-exchanged first second a)) (λ _. end)))))
 
   number-exchanged : Sound first ⊎ Sound second → (room k : ℕ) →
-      FirstFailed 1 (asked first second room) k → FirstFailed 1 (asked second first room) (exchanged k)
-  number-exchanged sound room k (inl f) = inl (λ a. f .0 (alike-exchanged second first a), ap exchanged (f .1))
-  number-exchanged sound room k (inr f) =
-      let a = f .0 in
-      inr (
-        alike-exchanged first second a,
-        ⊎-map (λ g. (omega arith, ap exchanged (g .1))) (λ g. (omega arith, later-lines a sound k (g .1))) (f .1),
-      )
+      FirstFailed (asked first second room) k → FirstFailed (asked second first room) (exchanged k)
+  number-exchanged sound room k f =
+      let l = of-drawing 6 7 8 first in
+      let m = of-drawing 3 4 5 second in
+      let r = of-cutting first second in
+      let h = ⊎-map (sound-hold 6 7 8 first) (sound-hold 3 4 5 second) sound in
+      same-failed (between-asked room) (exchanged k)
+      (under (line 1 (Alike first second) ∷ line 2 (Roomy (corners first) room) ∷ [])
+      (l ++ (m ++ r)) (m ++ (l ++ r)) (exchanged k)
+      (either-first l m r (exchanged k) h) (other-numbers exchanged refl (asked first second room) k f))
 
-  pub exchange-one : (before after : List ℕ) (number count bytes : ℕ) → Sound first ⊎ Sound second →
-      Answers first second before after number count bytes → Answers second first before after (exchanged number) count bytes
-  exchange-one before after number count bytes sound h =
-      answers-too first second second first before after number (exchanged number) count bytes (sight-exchanged first second)
-      (ap exchanged, only-zero number)
-      (number-exchanged sound (length before) number (h .numbered)) h
+  pub exchange-one : Sound first ⊎ Sound second → (before : List ℕ) (r : Result) →
+      Answers first second before r → Answers second first before (exchanged-result r)
+  exchange-one sound before r h = record {
+    numbered = number-exchanged sound (length before) (r .number) (h .numbered);
+    refused = λ lt.
+        let q = h .refused (above (decLt 0 (r .number)) lt) in
+        record { no-pieces = q .no-pieces; no-bytes = q .no-bytes; kept = q .kept };
+    given = λ e.
+        let z = only-zero (r .number) e in
+        let a = given-alike first second (length before) (r .number) z (h .numbered) in
+        let g = given-too first second second first (sight-exchanged first second a) before r a (h .given z) in
+        let c = g .carries in
+        record {
+          cutting = g .cutting;
+          is-first = g .is-first;
+          carries =
+              record { laid = c .laid; layout = c .layout; counted = c .counted; used = c .used; written = c .written };
+        };
+  }
+    where
+      above : Dec (0 < r .number) → 0 < exchanged (r .number) → 0 < r .number
+      above (yes l) lt = l
+      above (no l) lt = let z : r .number ≡ 0 = omega arith in absurd (omega (arith, ap exchanged z))
 
 -- so whatever is given for the one order is given for the other, but for the number
-abbrev pub exchanged-result : Result → Result
-exchanged-result r = record { number = exchanged (r .number); count = r .count; bytes = r .bytes; after = r .after }
-
 pub exchange-one-results : (first second : List ℤ) (before : List ℕ) (r s : Result) → Sound first ⊎ Sound second →
-    IsAnswer first second before r → IsAnswer second first before s → s ≡ exchanged-result r
+    Answers first second before r → Answers second first before s → s ≡ exchanged-result r
 exchange-one-results first second before r s sound h g =
-    one-result second first before s (exchanged-result r) g
-    (exchange-one first second before (r .after) (r .number) (r .count) (r .bytes) sound h)
+    answer-unique second first before s (exchanged-result r) g (exchange-one first second sound before r h)
 
 pub exchange-one-program : (p : Program) → Meets p → (first second : List ℤ) (before : List ℕ) → Sound first ⊎ Sound second →
     p second first before ≡ exchanged-result (p first second before)
 exchange-one-program p m first second before sound =
-    exchange-one-results first second before (p first second before) (p second first before) sound
-    (m .answers first second before) (m .answers second first before)
+    exchange-one-results first second before _ _ sound (m .answers first second before) (m .answers second first before)

@@ -1,23 +1,29 @@
--- The row Z, H of 01: "Cuts 0-2, 0-3 and 2-5 are valid alone too, and come later." One computed test of the three.
-use mathlib.Core.Path.{_≡_, refl, sym, _∙_, ap, subst}
+-- Cuttings beside the one that is given. The row Z, H of 01: "Cuts 0-2, 0-3 and 2-5 are valid alone too, and come
+-- later." One computed test of the three. And where fewest and first differ: of seven corners, a cutting of more
+-- pieces that is told before the one that is given.
+use mathlib.Core.Path.{_≡_, refl, sym, _∙_, ap, subst, subst₂}
 use mathlib.Core.Bool.{Bool, true, false, not, _&&_, _||_}
 use mathlib.Core.Logic.{inl, inr, ⊎-elim}
 use mathlib.Core.List.{List, [], _∷_, flatMap}
-use Prim.Native.Nat.{ℕ, suc}
+use Prim.Native.Nat.{ℕ, suc, _≤_}
 use native.Mathlib.Omega.{arith}
 use lib.Dec.{T, eqb, eqb→eq, ltb}
 use lib.Ieee.Fits.{and-l, and-r}
+use lib.IntN.{ℤ}
 use lib.ListN.{length}
 use Rattle.drawing.specs.Tells.{Tells, as-well, itself, never, and-tells, or-tells, not-tells, eq-tells, lower-tells}
 use Rattle.drawing.specs.Outlines.{Z, H}
+use Rattle.limits.specs.Limits.{fewest-corners}
+use Rattle.drawing.specs.Drawing.{corners}
 use Rattle.rules.specs.Lists.{In}
 use Rattle.rules.specs.Cutting.{Pairs, Inner, Uncrossed, Tree, leaf, link, tree, told, pieces, flat, run, Less, one}
-use Rattle.rules.specs.Centre.{HasCentre}
+use Rattle.rules.specs.Trees.{Node}
 use Rattle.rules.specs.Valid.{first-unique}
 use Rattle.rules.specs.Uses.{uses}
-use Rattle.desk.specs.Answer.{InBoth, Cut, ValidCutting, FirstCutting}
+use Rattle.desk.specs.Answer.{plan, ValidCutting, FirstCutting}
 use Rattle.demands.specs.Checks.{every, every-passes}
-use Rattle.demands.specs.Plan.{listed, plan, plan-first, listed-valid}
+use Rattle.demands.specs.Smallest.{listed, smallest, smallest-first, listed-told, listed-valid}
+use Rattle.demands.specs.Outlines.{fewest-first, fewest-second}
 
 -- ---- one cut alone
 unfoldable pub alone : ℕ → ℕ → Pairs
@@ -85,6 +91,14 @@ in-sure t (u ∷ l) h = go (same-tree t u) (tree-same t u) h (in-sure t l)
     go true e h f = inl (e tt)
     go false e h f = inr (f h)
 
+-- the run of the cutting that is given is the computed one's
+given-run : (first second : List ℤ) → fewest-corners ≤ corners first → Node (smallest first second) → (C : Pairs) →
+    FirstCutting first second C → run (corners first) C ≡ flat (told 0 (smallest first second))
+given-run first second enough k C f =
+    let p = smallest-first first second enough k in
+    let q = plan first second in
+    ap flat (first-unique (q .cut) (q .piece) one (corners first) C (uses 0 (smallest first second)) f (p .0) ∙ p .1)
+
 -- ---- the three cuts
 -- alone it is a valid cutting of Z and H, of two pieces, and its run comes after the run of the cutting that is given
 pub record Later (a b : ℕ) : Type 0 where
@@ -99,27 +113,24 @@ abbrev later-test : ℕ × ℕ → Bool
 later-test c =
     let C = alone (c .0) (c .1) in
     inner-test 6 (c .0) (c .1)
-    && (in-test (tree 6 C) (listed Z H) && (eqb (length (pieces 6 C)) 2 && less-test (flat (told 0 (plan Z H))) (run 6 C)))
+    && (in-test (tree 6 C) (listed Z H) && (eqb (length (pieces 6 C)) 2 && less-test (flat (told 0 (smallest Z H))) (run 6 C)))
 
--- the run of the cutting that is given
-given-run : (C : Pairs) → FirstCutting Z H C → run 6 C ≡ flat (told 0 (plan Z H))
+z-h-node : Node (smallest Z H)
 unfolding flatMap
-given-run C f =
-    let p = plan-first Z H (omega arith) tt in
-    ap flat (first-unique (Cut Z H) (HasCentre (InBoth Z H)) one 6 C (uses 0 (plan Z H)) f (p .0) ∙ p .1)
+z-h-node = tt
 
 later-sure : (c : ℕ × ℕ) → T (later-test c) → Later (c .0) (c .1)
 later-sure c h =
     let a = c .0 in
     let b = c .1 in
-    let runs = less-tells (flat (told 0 (plan Z H))) (run 6 (alone a b)) in
+    let runs = less-tells (flat (told 0 (smallest Z H))) (run 6 (alone a b)) in
     let trees = itself (in-test (tree 6 (alone a b)) (listed Z H)) in
     let counts = eq-tells (length (pieces 6 (alone a b))) 2 in
     let p = and-tells (inner-tells 6 a b) (and-tells trees (and-tells counts runs)) .sure h in
     record {
       valid = listed-valid Z H (omega arith) (alone a b) (alone-uncrossed 6 a b (p .0)) (in-sure _ (listed Z H) (p .1 .0));
       two-pieces = p .1 .1 .0;
-      later = λ C f. subst (λ r. Less r (run 6 (alone a b))) (sym (given-run C f)) (p .1 .1 .1);
+      later = λ C f. subst (λ r. Less r (run 6 (alone a b))) (sym (given-run Z H (omega arith) z-h-node C f)) (p .1 .1 .1);
     }
 
 pass : T (every later-test later-cuts)
@@ -128,3 +139,48 @@ pass = tt
 
 pub later-cuts-are : (c : ℕ × ℕ) → In c later-cuts → Later (c .0) (c .1)
 later-cuts-are c i = later-sure c (every-passes later-test later-cuts pass c i)
+
+-- ---- fewest before first: two outlines of the table, of seven corners. The first cutting listed is the first of
+-- all; it has three pieces
+abbrev foremost : List Tree → Tree
+foremost [] = leaf
+foremost (t ∷ l) = t
+
+foremost-in : (l : List Tree) → Node (foremost l) → In (foremost l) l
+foremost-in [] k = absurd k
+foremost-in (t ∷ l) k = inl refl
+
+abbrev first-told : Tree
+first-told = foremost (listed fewest-first fewest-second)
+
+abbrev given-told : Tree
+given-told = smallest fewest-first fewest-second
+
+foremost-node : Node first-told
+unfolding flatMap
+foremost-node = tt
+
+given-node : Node given-told
+unfolding flatMap
+given-node = tt
+
+three-pieces : length (told 0 first-told) ≡ 3
+unfolding flatMap
+three-pieces = refl
+
+told-before : Less (flat (told 0 first-told)) (flat (told 0 given-told))
+unfolding flatMap
+told-before = less-tells (flat (told 0 first-told)) (flat (told 0 given-told)) .sure tt
+
+pub earlier-cutting : (C : Pairs) × ValidCutting fewest-first fewest-second C × (length (pieces 7 C) ≡ 3)
+    × ((D : Pairs) → FirstCutting fewest-first fewest-second D → Less (run 7 C) (run 7 D))
+earlier-cutting = (uses 0 first-told, v .0, ap length (v .1) ∙ three-pieces, before)
+  where
+    v : ValidCutting fewest-first fewest-second (uses 0 first-told) × (pieces 7 (uses 0 first-told) ≡ told 0 first-told)
+    v =
+        listed-told fewest-first fewest-second (omega arith) first-told
+        (foremost-in (listed fewest-first fewest-second) foremost-node)
+
+    before : (D : Pairs) → FirstCutting fewest-first fewest-second D → Less (run 7 (uses 0 first-told)) (run 7 D)
+    before D f =
+        subst₂ Less (sym (ap flat (v .1))) (sym (given-run fewest-first fewest-second (omega arith) given-node D f)) told-before

@@ -1,8 +1,19 @@
--- Theorems about the answer that desk states: what that statement is worth (demand 2), and that the answer belongs to the shapes and not to
--- how they were entered (demand 3). Nothing here is about a program's code.
+-- Theorems about the answer that desk states: demands 1 and 2 in their own words and what that statement is worth,
+-- and that the answer belongs to the shapes and not to how they were entered (demand 3). Nothing here is about a
+-- program's code.
 
--- a program that meets desk's statement: two such programs give the same, so each theorem below is one about all of them
+-- ---- to be believed, with desk's `Answers`: a program that meets it (two such programs give the same, so each
+-- theorem below is one about all of them); a result by its bytes
 pub mod Program
+-- demand 3's own definitions: a number exchanged (`exchanged`), a whole-number rule (`Rule`) and a drawing moved by
+-- it (`move`), a drawing renumbered (`turned-by`)
+pub mod Entered
+-- what a row of a table says (`Holds`); its test
+pub mod Rows
+-- ---- demands 1 and 2, sentence by sentence
+pub mod Sentences
+-- more room, or other bytes in the buffer: the same comes back
+pub mod Room
 -- ---- demand 2: what the statement is worth
 -- the starred outlines of 01, one table
 pub mod Outlines
@@ -10,8 +21,10 @@ pub mod Outlines
 pub mod Later
 -- two sound triangles: always 0
 pub mod Triangles
--- worthless programs, which the statement finds out
+-- worthless programs, which the statement finds out, by single calls and as programs
 pub mod Worthless
+-- 01's wire example, whole input to whole output; every input has an output
+pub mod Wire
 -- ---- demand 3: the answer belongs to the shapes
 -- exchanging the drawings
 pub mod Exchange
@@ -22,21 +35,20 @@ pub mod Renumbering
 -- the three on given drawings, computed, and for each condition an instance without it that has another answer
 pub mod Sanity
 -- ---- tools: the table
--- its lines: which of them a number shows to hold; lines that ask the same
+-- laws of its numbered lines
 pub mod Lines
--- its lines ask the same of two pairs of drawings and the same corners see each other: the same answer
+-- its lines ask the same of two pairs of drawings and their plans agree: the same answer
 pub mod SameAnswer
 -- ---- tools: the answer, computed
--- tests of lists, and tests in an order
+-- tests of lists, and numbered tests in an order
 pub mod Checks
 -- the first smallest cutting
-pub mod Plan
+pub mod Smallest
 -- the answer, and that it is the answer
 pub mod Mirror
--- a row of a table, its test and what it tells
-pub mod Rows
 -- ---- tools: drawings that are moved or renumbered
--- what two drawings must have in common so that one is simple where the other is and corners see each other where their partners do
+-- what two drawings must have in common so that one is simple where the other is and corners see each other where
+-- their partners do
 pub mod Partners
 -- a whole-number rule on points: shared points, turns, angles
 pub mod MovedPoints

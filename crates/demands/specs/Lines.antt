@@ -1,59 +1,55 @@
--- The lines of 01's table, and the number of the first that fails: which lines a number shows to hold, that a sound drawing's lines are passed,
--- and that lines which ask the same give the same number.
-use mathlib.Core.Path.{_≡_}
-use mathlib.Core.Logic.{_⊎_, inl, inr, _↔_}
-use mathlib.Core.List.{List, [], _∷_}
-use Prim.Native.Nat.{ℕ, zero, suc, _+_, _≤_, _<_}
+-- Laws of numbered lines for 01's table: the lines before the last, lines that hold and stand elsewhere, lines with
+-- other numbers.
+use mathlib.Core.Path.{_≡_, ap, _∙_}
+use mathlib.Core.Logic.{_⊎_, inl, inr, ⊎-map}
+use mathlib.Core.List.{List, [], _∷_, _++_}
+use Prim.Native.Nat.{ℕ}
 use native.Mathlib.Omega.{arith}
 use lib.IntN.{ℤ}
-use Rattle.drawing.specs.Drawing.{Sound}
-use Rattle.rules.specs.Cutting.{Pairs}
-use Rattle.desk.specs.Answer.{ValidCutting, Alike, of-drawing, asked, FirstFailed}
+use Rattle.limits.specs.Limits.{Roomy}
+use Rattle.drawing.specs.Drawing.{corners}
+use Rattle.pair.specs.Pair.{Alike, of-drawings}
+use Rattle.rules.specs.Refusals.{Line, line, FirstFailed, Hold, passed, put-in}
+use Rattle.desk.specs.Answer.{of-cutting, asked}
 
--- what the last line asks: a valid cutting exists
-abbrev pub Cuttable : List ℤ → List ℤ → Type 0
-Cuttable first second = (C : Pairs) × ValidCutting first second C
+-- ---- the table up to its last line
+abbrev pub earlier : List ℤ → List ℤ → ℕ → List Line
+earlier first second room = line 1 (Alike first second) ∷ line 2 (Roomy (corners first) room) ∷ of-drawings first second
 
--- ---- what a number shows
--- the first j lines
-abbrev pub Few : ℕ → List (Type 0) → Type 0
-Few zero m = Unit {0}
-Few (suc j) [] = Unit {0}
-Few (suc j) (Q ∷ m) = Q × Few j m
+-- with number 0 or 9 they hold
+pub earlier-hold : (first second : List ℤ) (room k : ℕ) → (k ≡ 0) ⊎ (k ≡ 9) → FirstFailed (asked first second room) k →
+    Hold (earlier first second room) × FirstFailed (of-cutting first second) k
+earlier-hold first second room k (inl e) = passed (earlier first second room) (of-cutting first second) k (omega arith)
+earlier-hold first second room k (inr e) = passed (earlier first second room) (of-cutting first second) k (omega arith)
 
--- hold where the number is none of theirs
-pub held : (i j k : ℕ) (m : List (Type 0)) → (k < i) ⊎ (i + j ≤ k) → FirstFailed i m k → Few j m
-held i zero k m o f = tt
-held i (suc j) k [] o f = tt
-held i (suc j) k (Q ∷ m) (inl o) (inl h) = absurd (omega (arith, h .1))
-held i (suc j) k (Q ∷ m) (inr o) (inl h) = absurd (omega (arith, h .1))
-held i (suc j) k (Q ∷ m) (inl o) (inr h) = (h .0, held (suc i) j k m (inl (omega arith)) (h .1))
-held i (suc j) k (Q ∷ m) (inr o) (inr h) = (h .0, held (suc i) j k m (inr (omega arith)) (h .1))
+-- so with number 0 the first line does
+pub given-alike : (first second : List ℤ) (room k : ℕ) → k ≡ 0 → FirstFailed (asked first second room) k →
+    Alike first second
+given-alike first second room k z f = earlier-hold first second room k (inl z) f .0 .0
 
--- with number 0 the first line holds
-pub first-line : (first second : List ℤ) (room number : ℕ) →
-    FirstFailed 1 (asked first second room) number → number ≡ 0 → Alike first second
-first-line first second room number f z = held 1 1 number (asked first second room) (inl (omega arith)) f .0
+-- ---- lines that hold are passed, wherever they stand
+off : (l m : List Line) (k : ℕ) → Hold l → FirstFailed (l ++ m) k → FirstFailed m k
+off [] m k h f = f
+off (q ∷ l) m k h (inl f) = absurd (f .0 (h .0))
+off (q ∷ l) m k h (inr f) = off l m k (h .1) (f .1)
 
--- ---- the lines of a sound drawing hold: they are passed, and they may be put in
-pub sound-passed : (d : List ℤ) → Sound d → (l : List (Type 0)) (i k : ℕ) →
-    FirstFailed i (of-drawing d l) k → FirstFailed (suc (suc (suc i))) l k
-sound-passed d s l i k h = go (s .anticlockwise) (go (s .simple) (go (s .in-range) h))
-  where
-    go : {P X Y : Type 0} → P → ((¬ P) × X) ⊎ (P × Y) → Y
-    go p (inl f) = absurd (f .0 p)
-    go p (inr f) = f .1
+pub under : (p l m : List Line) (k : ℕ) → (FirstFailed l k → FirstFailed m k) →
+    FirstFailed (p ++ l) k → FirstFailed (p ++ m) k
+under [] l m k f = f
+under (q ∷ p) l m k f = ⊎-map (λ g. g) (λ g. (g .0, under p l m k f (g .1)))
 
-pub sound-put-in : (d : List ℤ) → Sound d → (l : List (Type 0)) (i k : ℕ) →
-    FirstFailed (suc (suc (suc i))) l k → FirstFailed i (of-drawing d l) k
-sound-put-in d s l i k h = inr (s .in-range, inr (s .simple, inr (s .anticlockwise, h)))
+-- so of two runs of lines, one of which holds, either may stand first
+pub either-first : (l m r : List Line) (k : ℕ) → Hold l ⊎ Hold m →
+    FirstFailed (l ++ (m ++ r)) k → FirstFailed (m ++ (l ++ r)) k
+either-first l m r k (inl h) f = under m r (l ++ r) k (put-in l r k h) (off l (m ++ r) k h f)
+either-first l m r k (inr h) f = put-in m (l ++ r) k h (under l (m ++ r) r k (off m r k h) f)
 
--- ---- lines that ask the same, each where those before it hold, give the same number
-pub data SameAsked : List (Type 0) → List (Type 0) → Type 1 where
-  end : SameAsked [] []
-  line : {P Q : Type 0} {k l : List (Type 0)} → P ↔ Q → (P → SameAsked k l) → SameAsked (P ∷ k) (Q ∷ l)
+-- ---- the same lines with other numbers
+module _ (f : ℕ → ℕ) where
+  abbrev pub numbered-by : List Line → List Line
+  numbered-by [] = []
+  numbered-by (q ∷ l) = line (f (q .number)) (q .asks) ∷ numbered-by l
 
-pub same-failed : {k l : List (Type 0)} → SameAsked k l → (i number : ℕ) → FirstFailed i k number → FirstFailed i l number
-same-failed end i number f = f
-same-failed (line e rest) i number (inl f) = inl ((λ q. f .0 (e .1 q)), f .1)
-same-failed (line e rest) i number (inr f) = inr (e .0 (f .0), same-failed (rest (f .0)) (suc i) number (f .1))
+  pub other-numbers : f 0 ≡ 0 → (l : List Line) (k : ℕ) → FirstFailed l k → FirstFailed (numbered-by l) (f k)
+  other-numbers z [] k = λ h. ap f h ∙ z
+  other-numbers z (q ∷ l) k = ⊎-map (λ g. (g .0, ap f (g .1))) (λ g. (g .0, other-numbers z l k (g .1)))

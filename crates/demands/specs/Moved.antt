@@ -1,6 +1,6 @@
--- A whole-number rule on drawings: the moved drawing has as many corners and is simple where the drawing is and only there, its doubled
--- area is multiplied by ad-bc, so it keeps its sign, and the same corners see each other. Nothing is said of the coordinates' limits:
--- a rule may lead out of them.
+-- A whole-number rule on drawings: the moved drawing has as many corners and is simple where the drawing is and only
+-- there, its doubled area is multiplied by ad-bc, so it keeps its sign, and the same corners see each other. Nothing
+-- is said of the coordinates' limits: a rule may lead out of them.
 use mathlib.Core.Path.{_≡_, refl, sym, _∙_, ap, ap₂, subst}
 use mathlib.Core.List.{List, [], _∷_}
 use mathlib.Core.Logic.{_↔_}
@@ -13,19 +13,9 @@ use Rattle.whole.specs.Ring.{E, v, con, _:+_, _:-_, _:*_, ring}
 use Rattle.drawing.specs.Drawing.{Point, corner, corners, next, Simple, Sees, side-area, area-to, doubled-area}
 use Rattle.drawing.specs.Round.{next-inner, next-last, next-below}
 use Rattle.demands.specs.Partners.{Keeps, keeps-same, Partners, partners-simple, partners-sees}
-use Rattle.demands.specs.MovedPoints.{Rule, factor, image, numbers, factor-of, image-x, image-y}
+use Rattle.demands.specs.Entered.{Rule, move}
+use Rattle.demands.specs.MovedPoints.{factor, image, numbers, factor-of, image-x, image-y}
 use Rattle.demands.specs.MovedPoints.{image-apart, shared-moved, only-moved, inside-moved, above-kept}
-
--- each corner (x,y) goes to (ax+by+e, cx+dy+f), whatever ad-bc is; a number left over at the end is kept, so that the length is the same
--- for every list
-abbrev pub send : (a b c d e f : ℤ) → List ℤ → List ℤ
-send a b c d e f [] = []
-send a b c d e f (x ∷ []) = x ∷ []
-send a b c d e f (x ∷ (y ∷ l)) = (a *ℤ x +ℤ b *ℤ y +ℤ e) ∷ ((c *ℤ x +ℤ d *ℤ y +ℤ f) ∷ send a b c d e f l)
-
--- by a rule
-abbrev pub move : Rule → List ℤ → List ℤ
-move t = send (t .a) (t .b) (t .c) (t .d) (t .e) (t .f)
 
 module _ (t : Rule) where
   pub length-moved : (d : List ℤ) → length (move t d) ≡ length d
@@ -99,8 +89,8 @@ module _ (t : Rule) where
           (subst (λ m. j < m) (sym (corners-moved d)) g),
     )
 
-  -- ---- the doubled area: what e and f add to a side's share is the difference of one number between its ends, and round the outline
-  -- these differences add up to nothing
+  -- ---- the doubled area: what e and f add to a side's share is the difference of one number between its ends, and
+  -- round the outline these differences add up to nothing
   abbrev share : Point → Point → ℤ
   share p q = p .x *ℤ q .y -ℤ q .x *ℤ p .y
 

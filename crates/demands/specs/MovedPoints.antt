@@ -1,5 +1,5 @@
--- A whole-number rule on points: segments share a point where their images do, Turn is multiplied by ad-bc, so it keeps its sign, and
--- a point is inside an angle where its image is inside the angle's image.
+-- A whole-number rule on points: segments share a point where their images do, Turn is multiplied by ad-bc, so it
+-- keeps its sign, and a point is inside an angle where its image is inside the angle's image.
 use mathlib.Core.Path.{_≡_, refl, sym, _∙_, ap, subst}
 use mathlib.Core.List.{List, [], _∷_}
 use mathlib.Core.Logic.{_↔_, Iff·symm}
@@ -8,17 +8,9 @@ use lib.Signed.{_≤ℤ_, _<ℤ_}
 use Rattle.whole.specs.Ring.{E, v, con, _:+_, _:-_, _:*_, neg, ring, ring1, ring2}
 use Rattle.whole.specs.Order.{zero-cancel, positive-nonneg, positive-mul, positive-cancel, nonneg-mul, nonneg-cancel}
 use Rattle.drawing.specs.Drawing.{Point, Shared, IsAt, SharedOnlyAt, Turn, InsideAngle}
+use Rattle.demands.specs.Entered.{Rule}
 
--- ---- 01, "What comes back": "A whole-number rule sends (x,y) to (ax+by+e, cx+dy+f) with whole a to f and ad-bc > 0."
-pub record Rule : Type 0 where
-  pub a : ℤ
-  pub b : ℤ
-  pub c : ℤ
-  pub d : ℤ
-  pub e : ℤ
-  pub f : ℤ
-  pub above : pos 0 <ℤ (a *ℤ d -ℤ b *ℤ c)
-
+-- ---- ad-bc, and where a point goes
 abbrev pub factor : Rule → ℤ
 factor t = t .a *ℤ t .d -ℤ t .b *ℤ t .c
 
@@ -38,7 +30,8 @@ image-x x y = v 0 :* x :+ v 1 :* y :+ v 4
 abbrev pub image-y : E → E → E
 image-y x y = v 2 :* x :+ v 3 :* y :+ v 5
 
--- ---- points with the same image are the same: the adjugate gives the factor times the difference, and the factor is cancelled
+-- ---- points with the same image are the same: the adjugate gives the factor times the difference, and the factor is
+-- cancelled
 module _ (t : Rule) where
   equal : {z w : ℤ} → factor t *ℤ (z -ℤ w) ≡ pos 0 → z ≡ w
   equal {z} {w} e = ring1 (z ∷ w ∷ []) (v 0) (v 1) (con (pos 1)) (v 0 :- v 1) (con (pos 0)) (zero-cancel (t .above) e) refl

@@ -1,6 +1,7 @@
--- Two drawings are partners when they have equally many corners, each corner i of the second has a partner τ i in the first, τ is one to
--- one and goes round the outline as `next` does, and a relation that keeps what 01 asks of points ties partners together. Then the second
--- is simple where the first is, and its corners see each other where their partners do. The way back is the same theorem, exchanged.
+-- Two drawings are partners when they have equally many corners, each corner i of the second has a partner τ i in the
+-- first, τ is one to one and goes round the outline as `next` does, and a relation that keeps what 01 asks of points
+-- ties partners together. Then the second is simple where the first is, and its corners see each other where their
+-- partners do. The way back is the same theorem, exchanged.
 use mathlib.Core.Path.{_≡_, refl, sym, _∙_, ap, subst, transport, transport⁻¹}
 use mathlib.Core.Logic.{_⊎_, inl, inr, ⊎-elim, _↔_}
 use mathlib.Core.List.{List}

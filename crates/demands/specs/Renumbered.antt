@@ -8,12 +8,8 @@ use lib.IntN.{ℤ}
 use lib.ListN.{length, take, drop, length-append, length-take, length-drop, take-append-drop}
 use lib.Seq.{take-at, drop-at}
 use Rattle.drawing.specs.Drawing.{corners, InRange, Simple, doubled-area}
-use Rattle.demands.specs.Turned.{turned, length-turned, in-range-turned, simple-turned, area-turned}
-
--- by k corners
-abbrev pub turned-by : ℕ → List ℤ → List ℤ
-turned-by zero d = d
-turned-by (suc k) d = turned-by k (turned d)
+use Rattle.demands.specs.Entered.{turned, turned-by}
+use Rattle.demands.specs.Turned.{length-turned, in-range-turned, simple-turned, area-turned}
 
 pub length-turned-by : (k : ℕ) (d : List ℤ) → length (turned-by k d) ≡ length d
 length-turned-by zero d = refl

@@ -1,5 +1,5 @@
--- Renumbering both drawings leads each valid cutting to a valid cutting of no more pieces, one corner on, any number of corners on, and
--- back again: once round gives the drawings back.
+-- Renumbering both drawings leads each valid cutting to a valid cutting of no more pieces, one corner on, any number
+-- of corners on, and back again: once round gives the drawings back.
 use mathlib.Core.Path.{_≡_, refl, sym, _∙_, ap, subst, subst₂}
 use mathlib.Core.Logic.{inl, inr}
 use mathlib.Core.List.{List}
@@ -13,9 +13,11 @@ use Rattle.rules.specs.Cutting.{Pairs, Valid, pieces}
 use Rattle.rules.specs.Centre.{HasCentre}
 use Rattle.rules.specs.Turn.{Moved, centre-turn}
 use Rattle.rules.specs.Renumber.{Carried, turn, turn-valid, turn-pieces}
-use Rattle.desk.specs.Answer.{InBoth, Cut, ValidCutting, Alike}
-use Rattle.demands.specs.Turned.{turned, length-turned, corners-turned, sees-turned}
-use Rattle.demands.specs.Renumbered.{turned-by, once-round}
+use Rattle.pair.specs.Pair.{Alike}
+use Rattle.desk.specs.Answer.{InBoth, Cut, ValidCutting}
+use Rattle.demands.specs.Entered.{turned, turned-by}
+use Rattle.demands.specs.Turned.{length-turned, corners-turned, sees-turned}
+use Rattle.demands.specs.Renumbered.{once-round}
 use Rattle.demands.specs.SameAnswer.{alike-by-length}
 
 -- for each valid cutting of the first pair the second pair has one, of no more pieces

@@ -1,10 +1,11 @@
--- Demand 3 on given drawings, computed: for each of its three parts worked instances, and for each condition an instance that is without it
--- and has another answer, so that a reader sees why it is there. Two tables, each with one computed test.
+-- Demand 3 on given drawings, computed: for each of its three parts worked instances, and for each condition an
+-- instance that is without it and has another answer, so that a reader sees why it is there. Two tables, each with
+-- one computed test.
 use mathlib.Core.Path.{_≡_, refl, sym, _∙_, ap}
 use mathlib.Core.Bool.{Bool, not, _&&_}
 use mathlib.Core.Logic.{inl}
 use mathlib.Core.List.{List, [], _∷_, flatMap}
-use Prim.Native.Nat.{ℕ}
+use Prim.Native.Nat.{ℕ, _≤_}
 use native.Mathlib.Omega.{arith}
 use lib.Dec.{T, eqb}
 use lib.IntN.{ℤ, pos, negsuc}
@@ -14,18 +15,16 @@ use lib.Signed.{ltZ-yes}
 use Rattle.drawing.specs.Tells.{failed, itself, and-tells, eq-tells}
 use Rattle.drawing.specs.Outlines.{S, D, E, Z, H, crossing, backwards}
 use Rattle.rules.specs.Lists.{In}
-use Rattle.demands.specs.Program.{Result, IsAnswer}
+use Rattle.rules.specs.Result.{Result}
+use Rattle.desk.specs.Answer.{Answers}
+use Rattle.demands.specs.Entered.{exchanged, Rule, send, move, turned-by}
+use Rattle.demands.specs.Program.{refusal, writing}
 use Rattle.demands.specs.Checks.{every, every-passes}
-use Rattle.demands.specs.Mirror.{writing}
-use Rattle.demands.specs.Rows.{Row, given, refused, bytes-test, bytes-tells, row-test, Holds, row-holds, row-only}
-use Rattle.demands.specs.Exchange.{exchanged}
-use Rattle.demands.specs.MovedPoints.{Rule}
-use Rattle.demands.specs.Moved.{send, move}
-use Rattle.demands.specs.Renumbered.{turned-by}
+use Rattle.demands.specs.Rows.{Case, given, refused, Rooms, Comes, bytes-test, bytes-tells, case-test, case-comes, case-only}
 
 -- a pair of drawings and its answer; the pair that is made of it, and its answer
 abbrev pub Sample : Type 0
-Sample = Row × Row
+Sample = Case × Case
 
 -- ---- whole-number rules; negsuc n is -(n+1)
 -- (x,y) to (x+2y, y)
@@ -70,12 +69,14 @@ promised =
     -- exchange: both sound; just one unsound, 5 becomes 8
     (given Z H 20 2 cut-3-5, given H Z 20 2 cut-3-5)
     ∷ (refused backwards S 10 5, refused S backwards 10 8)
-    -- rules: Z sheared; H turned; Z up to the limits; a refusal stays, of one drawing (4) and of both (9)
+    -- rules: Z sheared; H turned; Z up to the limits; a refusal stays, of one drawing (4), of both (9), and where a
+    -- coordinate is out of range before and after (3)
     ∷ (given Z H 20 2 cut-3-5, given (move shear Z) H 20 2 cut-3-5)
     ∷ (given Z H 20 2 cut-3-5, given Z (move quarter H) 20 2 cut-3-5)
     ∷ (given Z H 20 2 cut-3-5, given (move large Z) H 20 2 cut-3-5)
     ∷ (refused crossing S 10 4, refused (move shear crossing) S 10 4)
     ∷ (refused D E 10 9, refused (move quarter D) E 10 9)
+    ∷ (refused far S 10 3, refused (move quarter far) S 10 3)
     -- renumbering, by two corners: as many pieces and bytes; a refusal stays
     ∷ (given Z H 20 2 cut-3-5, given (turned-by 2 Z) (turned-by 2 H) 20 2 (5 ∷ 1 ∷ 0 ∷ 1 ∷ 2 ∷ 4 ∷ 5 ∷ 3 ∷ 2 ∷ 2 ∷ 3 ∷ 4 ∷ []))
     ∷ (refused D E 10 9, refused (turned-by 2 D) (turned-by 2 E) 10 9)
@@ -104,18 +105,18 @@ unpromised =
 
 -- ---- the tests
 abbrev both-test : Sample → Bool
-both-test s = row-test (s .0) && row-test (s .1)
+both-test s = case-test (s .0) && case-test (s .1)
 
 abbrev same-test : Sample → Bool
-same-test s = eqb (s .0 .number) (s .1 .number) && bytes-test (s .0 .laid) (s .1 .laid)
+same-test s = eqb (s .0 .answer .number) (s .1 .answer .number) && bytes-test (s .0 .answer .laid) (s .1 .answer .laid)
 
 abbrev other-test : Sample → Bool
 other-test s = both-test s && not (same-test s)
 
-both-hold : (s : Sample) → T (both-test s) → Holds (s .0) × Holds (s .1)
-both-hold s h =
-    let p = and-tells (itself (row-test (s .0))) (itself (row-test (s .1))) .sure h in
-    (row-holds (s .0) (p .0), row-holds (s .1) (p .1))
+both-come : (s : Sample) → T (both-test s) → Comes (s .0) × Comes (s .1)
+both-come s h =
+    let p = and-tells (itself (case-test (s .0))) (itself (case-test (s .1))) .sure h in
+    (case-comes (s .0) (p .0), case-comes (s .1) (p .1))
 
 other-parts : (s : Sample) → T (other-test s) → T (both-test s) × T (not (same-test s))
 other-parts s = and-tells (itself (both-test s)) (itself (not (same-test s))) .sure
@@ -128,45 +129,45 @@ unpromised-pass : T (every other-test unpromised)
 unfolding flatMap
 unpromised-pass = tt
 
--- ---- both answers of each sample are the answers, with every buffer of the row's length
-pub promised-hold : (s : Sample) → In s promised → Holds (s .0) × Holds (s .1)
-promised-hold s i = both-hold s (every-passes both-test promised promised-pass s i)
+-- ---- both answers of each sample are the answers, with every buffer of the case's room
+pub promised-hold : (s : Sample) → In s promised → Comes (s .0) × Comes (s .1)
+promised-hold s i = both-come s (every-passes both-test promised promised-pass s i)
 
-pub unpromised-hold : (s : Sample) → In s unpromised → Holds (s .0) × Holds (s .1)
-unpromised-hold s i = both-hold s (other-parts s (every-passes other-test unpromised unpromised-pass s i) .0)
+pub unpromised-hold : (s : Sample) → In s unpromised → Comes (s .0) × Comes (s .1)
+unpromised-hold s i = both-come s (other-parts s (every-passes other-test unpromised unpromised-pass s i) .0)
 
 -- ---- where nothing is promised no result answers both
 pub unpromised-differ : (s : Sample) → In s unpromised → (before before′ : List ℕ) →
-    length before ≡ s .0 .room → length before′ ≡ s .1 .room →
-    (x : Result) → IsAnswer (s .0 .first) (s .0 .second) before x → ¬ IsAnswer (s .1 .first) (s .1 .second) before′ x
-unpromised-differ s i before before′ e e′ x a b =
-    failed (and-tells (eq-tells _ _) (bytes-tells (s .0 .laid) (s .1 .laid)))
+    Rooms (s .0) (length before) → Rooms (s .1) (length before′) →
+    (x : Result) → Answers (s .0 .first) (s .0 .second) before x → ¬ Answers (s .1 .first) (s .1 .second) before′ x
+unpromised-differ s i before before′ m m′ x a b =
+    failed (and-tells (eq-tells _ _) (bytes-tells (s .0 .answer .laid) (s .1 .answer .laid)))
     (other-parts s (every-passes other-test unpromised unpromised-pass s i) .1) (ap (λ r. r .number) same, laid-is)
   where
-    hold : Holds (s .0) × Holds (s .1)
+    hold : Comes (s .0) × Comes (s .1)
     hold = unpromised-hold s i
 
-    same : writing (s .0 .number) (s .0 .count) (s .0 .laid) before ≡ writing (s .1 .number) (s .1 .count) (s .1 .laid) before′
-    same = sym (row-only (s .0) (hold .0) before e x a) ∙ row-only (s .1) (hold .1) before′ e′ x b
+    same : writing (s .0 .answer) before ≡ writing (s .1 .answer) before′
+    same = sym (case-only (s .0) (hold .0) before m x a) ∙ case-only (s .1) (hold .1) before′ m′ x b
 
-    laid-is : s .0 .laid ≡ s .1 .laid
+    laid-is : s .0 .answer .laid ≡ s .1 .answer .laid
     laid-is =
-        let m = length (s .0 .laid) in
-        sym (take-at (s .0 .laid) _ m refl)
-        ∙ ap (λ r. take m (r .after)) same
-        ∙ take-at (s .1 .laid) _ m (sym (ap (λ r. r .bytes) same))
+        let n = length (s .0 .answer .laid) in
+        sym (take-at (s .0 .answer .laid) _ n refl)
+        ∙ ap (λ r. take n (r .after)) same
+        ∙ take-at (s .1 .answer .laid) _ n (sym (ap (λ r. r .bytes) same))
 
 -- and an exchange of two unsound drawings does not change the number as one of a sound and an unsound drawing does
-pub both-unsound : (before : List ℕ) → length before ≡ 10 → (x y : Result) →
-    IsAnswer far crossing before x → IsAnswer crossing far before y → ¬ (y .number ≡ exchanged (x .number))
-both-unsound before e x y a b w =
+pub both-unsound : (before : List ℕ) → 10 ≤ length before → (x y : Result) →
+    Answers far crossing before x → Answers crossing far before y → ¬ (y .number ≡ exchanged (x .number))
+both-unsound before m x y a b w =
     omega (arith, sym (ap (λ r. r .number) crossing-first) ∙ w ∙ ap (λ r. exchanged (r .number)) far-first)
   where
-    hold : Holds (refused far crossing 10 3) × Holds (refused crossing far 10 4)
+    hold : Comes (refused far crossing 10 3) × Comes (refused crossing far 10 4)
     hold = unpromised-hold _ (inl refl)
 
-    far-first : x ≡ writing 3 0 [] before
-    far-first = row-only (refused far crossing 10 3) (hold .0) before e x a
+    far-first : x ≡ writing (refusal 3) before
+    far-first = case-only (refused far crossing 10 3) (hold .0) before m x a
 
-    crossing-first : y ≡ writing 4 0 [] before
-    crossing-first = row-only (refused crossing far 10 4) (hold .1) before e y b
+    crossing-first : y ≡ writing (refusal 4) before
+    crossing-first = case-only (refused crossing far 10 4) (hold .1) before m y b

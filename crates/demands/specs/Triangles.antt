@@ -1,6 +1,6 @@
--- 01, "Outlines to try": "n = 3, both sound, room 5: always 0." Whatever the triangles, the answer is 03 00 00 01 02: three corners see each
--- other, and leave no pair for a cut.
-use mathlib.Core.Path.{_≡_, refl, sym, ap, subst}
+-- 01, "Outlines to try": "n = 3, both sound, room 5: always 0." Whatever the triangles, the answer is 03 00 00 01 02:
+-- three corners see each other, and leave no pair for a cut.
+use mathlib.Core.Path.{_≡_, refl, sym, _∙_, ap, subst}
 use mathlib.Core.Bool.{false}
 use mathlib.Core.Logic.{_⊎_, inl, inr}
 use mathlib.Core.List.{List, [], _∷_}
@@ -9,16 +9,18 @@ use native.Mathlib.Omega.{arith}
 use native.Mathlib.Decide.{ℕ-discrete}
 use lib.IntN.{ℤ}
 use lib.ListN.{length}
-use Rattle.drawing.specs.Drawing.{corners, next, Sound, Sees}
+use Rattle.drawing.specs.Drawing.{corners, next, Sees}
 use Rattle.drawing.specs.Tells.{or-tells, eq-tells, all-tells}
 use Rattle.rules.specs.Lists.{In}
 use Rattle.rules.specs.Cutting.{Pairs, Inner, Region, Valid, pieces, weight, one, First}
-use Rattle.rules.specs.Centre.{HasCentre, Layout}
+use Rattle.rules.specs.Centre.{HasCentre, Lowest, Layout}
+use Rattle.rules.specs.Plan.{FirstBy}
+use Rattle.rules.specs.Result.{Result}
 use Rattle.rules.specs.Valid.{same-pieces}
-use Rattle.desk.specs.Answer.{InBoth, Cut, FirstCutting, Alike, of-drawing, of-cutting, FirstFailed}
-use Rattle.demands.specs.Program.{Result, IsAnswer, one-result}
-use Rattle.demands.specs.Lines.{sound-put-in}
-use Rattle.demands.specs.Mirror.{Gives}
+use Rattle.desk.specs.Answer.{InBoth, Cut, plan, FirstCutting, Answers}
+use Rattle.desk.specs.Unique.{answer-unique}
+use Rattle.demands.specs.Program.{cutting, Gives}
+use Rattle.demands.specs.Sentences.{BothSound, last-decides}
 
 -- ---- three corners: each is beside each
 beside : (x : ℕ) → x < 3 → (y : ℕ) → y < 3 → (x ≡ y) ⊎ ((next 3 x ≡ y) ⊎ (next 3 y ≡ x))
@@ -64,7 +66,7 @@ module _ (cut : ℕ → ℕ → Type 0) (sees : ℕ → ℕ → Type 0) (all : (
     first = λ D va le. inl (only-none D va);
   }
 
-  none-layout : Layout sees (pieces 3 none) (3 ∷ 0 ∷ 0 ∷ 1 ∷ 2 ∷ [])
+  none-layout : Layout (Lowest sees) (pieces 3 none) (3 ∷ 0 ∷ 0 ∷ 1 ∷ 2 ∷ [])
   unfolding pieces none
   none-layout = (0, [], record { centre = (inl refl, see); lowest = λ y c. omega arith }, refl, refl)
     where
@@ -73,43 +75,32 @@ module _ (cut : ℕ → ℕ → Type 0) (sees : ℕ → ℕ → Type 0) (all : (
       see y (inr (inl e)) = all 0 y (omega arith) (omega arith)
       see y (inr (inr (inl e))) = all 0 y (omega arith) (omega arith)
 
-module _ (first second : List ℤ) (sound : Sound first) (sound′ : Sound second) (e : corners first ≡ 3) (e′ : corners second ≡ 3)
-    (before : List ℕ) (room : 5 ≤ length before) where
+module _ (first second : List ℤ) (sound : BothSound first second) (e : corners first ≡ 3) (before : List ℕ)
+    (room : 5 ≤ length before) where
   see-both : (x y : ℕ) → x < 3 → y < 3 → InBoth first second x y
-  see-both x y l m = (three-see first e x y l m, three-see second e′ x y l m)
-
-  alike : Alike first second
-  alike = record {
-    even = sound .shaped .even;
-    same = omega (arith, sound .shaped .even, sound′ .shaped .even);
-    enough = omega arith;
-    few = omega arith;
-  }
+  see-both x y l m = (three-see first e x y l m, three-see second (sym (sound .equally-many) ∙ e) x y l m)
 
   none-is-first : FirstCutting first second none
-  none-is-first = subst (λ n. First (Cut first second) (HasCentre (InBoth first second)) one n none) (sym e) (none-first _ _ see-both)
+  none-is-first = subst (λ n. FirstBy (plan first second) n none) (sym e) (none-first _ _ see-both)
 
-  both-sound : FirstFailed 3 (of-drawing first (of-drawing second (of-cutting first second))) 0
-  both-sound =
-      sound-put-in first sound (of-drawing second (of-cutting first second)) 3 0
-      (sound-put-in second sound′ (of-cutting first second) 6 0 (inr ((none, none-is-first .valid), refl)))
-
-  pub triangles : Gives first second before 0 1 (3 ∷ 0 ∷ 0 ∷ 1 ∷ 2 ∷ [])
+  pub triangles : Gives first second before (cutting 1 (3 ∷ 0 ∷ 0 ∷ 1 ∷ 2 ∷ []))
   unfolding pieces none
   triangles = record {
-    numbered = inr (alike, inr (omega arith, both-sound));
+    numbered = last-decides first second (length before) 0 sound (omega arith) (inr ((none, none-is-first .valid), refl));
     refused = λ lt. absurd (omega arith);
     given = λ z. record {
       cutting = none;
       is-first = none-is-first;
-      laid = 3 ∷ 0 ∷ 0 ∷ 1 ∷ 2 ∷ [];
-      layout = subst (λ n. Layout (InBoth first second) (pieces n none) (3 ∷ 0 ∷ 0 ∷ 1 ∷ 2 ∷ [])) (sym e)
-          (none-layout (Cut first second) _ see-both);
-      counted = subst (λ n. 1 ≡ length (pieces n none)) (sym e) refl;
-      used = refl;
-      written = refl;
+      carries = record {
+        laid = 3 ∷ 0 ∷ 0 ∷ 1 ∷ 2 ∷ [];
+        layout = subst (λ n. Layout (plan first second .centre) (pieces n none) (3 ∷ 0 ∷ 0 ∷ 1 ∷ 2 ∷ [])) (sym e)
+            (none-layout (Cut first second) _ see-both);
+        counted = subst (λ n. 1 ≡ length (pieces n none)) (sym e) refl;
+        used = refl;
+        written = refl;
+      };
     };
   }
 
-  pub triangles-0 : (r : Result) → IsAnswer first second before r → r .number ≡ 0
-  triangles-0 r a = ap (λ (q : Result). q .number) (one-result first second before r _ a triangles)
+  pub triangles-0 : (r : Result) → Answers first second before r → r .number ≡ 0
+  triangles-0 r a = ap (λ (q : Result). q .number) (answer-unique first second before r _ a triangles)

@@ -1,7 +1,8 @@
--- Renumbering a drawing by one corner: corner i becomes i + 1, and the last becomes 0. For a list of even length the turned drawing is
--- in range, simple and anticlockwise where the drawing is and only there, and corners see each other where they did.
+-- Renumbering a drawing by one corner: corner i becomes i + 1, and the last becomes 0. For a list of even length the
+-- turned drawing is in range, simple and anticlockwise where the drawing is and only there, and corners see each
+-- other where they did.
 use mathlib.Core.Path.{_≡_, refl, sym, _∙_, ap, ap₂, subst, subst₂}
-use mathlib.Core.List.{List, _++_}
+use mathlib.Core.List.{List}
 use mathlib.Core.Logic.{_↔_, by-cases}
 use Prim.Native.Nat.{ℕ, zero, suc, _+_, _-_, _*_, _/_, _≤_, _<_}
 use native.Mathlib.Decide.{decLt}
@@ -10,14 +11,12 @@ use lib.IntN.{ℤ, pos, negℤ, _+ℤ_, _-ℤ_, _*ℤ_, +ℤ-comm, +ℤ-assoc}
 use lib.ListN.{length, getD, take, drop, length-append, length-take, length-drop, List·getD-append}
 use lib.Seq.{getD-take, getD-drop, getD-append-add}
 use lib.Signed.{_≤ℤ_}
-use Rattle.drawing.specs.Drawing.{furthest, corner, corners, next, prev, InRange, Simple, Sees}
+use Rattle.limits.specs.Limits.{furthest}
+use Rattle.drawing.specs.Drawing.{corner, corners, next, prev, InRange, Simple, Sees}
 use Rattle.drawing.specs.Drawing.{side-area, area-to, doubled-area}
 use Rattle.drawing.specs.Round.{next-inner, next-last, next-below, prev-below, prev-next, next-prev}
+use Rattle.demands.specs.Entered.{turned}
 use Rattle.demands.specs.Partners.{keeps-same, Partners, partners-simple, partners-sees}
-
--- the last two numbers go to the front
-abbrev pub turned : List ℤ → List ℤ
-turned d = drop (length d - 2) d ++ take (length d - 2) d
 
 pub length-turned : (d : List ℤ) → length (turned d) ≡ length d
 length-turned d = simp (length-append, length-drop, length-take) (omega arith)

@@ -1,6 +1,6 @@
--- Demand 3, the second part: whole-number rules. A rule sends (x,y) to (ax+by+e, cx+dy+f) with whole a to f and ad-bc > 0. Applied to one
--- of the drawings, with the coordinates in range before and after, it changes nothing of the answer: the same number, refusals too, the
--- same counts, every byte the same.
+-- Demand 3, the second part: whole-number rules. A rule sends (x,y) to (ax+by+e, cx+dy+f) with whole a to f and
+-- ad-bc > 0. Applied to one of the drawings, with its coordinates in range before exactly when after, it changes
+-- nothing of the answer: the same number, refusals too, the same counts, every byte the same.
 use mathlib.Core.Path.{_≡_, refl}
 use mathlib.Core.Logic.{_↔_, Iff·rfl, Iff·and}
 use mathlib.Core.List.{List}
@@ -8,56 +8,67 @@ use Prim.Native.Nat.{ℕ, _<_}
 use native.Mathlib.Omega.{arith}
 use lib.IntN.{ℤ}
 use Rattle.drawing.specs.Drawing.{corners, InRange}
-use Rattle.desk.specs.Answer.{Alike, Answers}
-use Rattle.demands.specs.MovedPoints.{Rule}
-use Rattle.demands.specs.Moved.{move, length-moved, corners-moved, simple-moved, anticlockwise-moved, sees-moved}
+use Rattle.pair.specs.Pair.{Alike}
+use Rattle.rules.specs.Result.{Result}
+use Rattle.desk.specs.Answer.{Answers}
+use Rattle.desk.specs.Unique.{answer-unique}
+use Rattle.demands.specs.Entered.{Rule, move}
+use Rattle.demands.specs.Moved.{length-moved, corners-moved, simple-moved, anticlockwise-moved, sees-moved}
 use Rattle.demands.specs.SameAnswer.{SameJudged, alike-by-length, same-judged, same-answer}
-use Rattle.demands.specs.Program.{Result, Program, IsAnswer, Meets, one-result}
+use Rattle.demands.specs.Program.{Program, Meets}
 
 module _ (t : Rule) where
-  judged-moved : (d : List ℤ) → InRange d → InRange (move t d) → SameJudged d (move t d)
-  judged-moved d here there = record {
-    in-range = (λ _. there, λ _. here);
-    simple = simple-moved t d;
-    anticlockwise = anticlockwise-moved t d;
-  }
+  -- in range before exactly when after
+  abbrev pub KeepsRange : List ℤ → Type 0
+  KeepsRange d = InRange d ↔ InRange (move t d)
+
+  judged-moved : (d : List ℤ) → KeepsRange d → SameJudged d (move t d)
+  judged-moved d range = record { in-range = range; simple = simple-moved t d; anticlockwise = anticlockwise-moved t d }
 
   module _ (first second : List ℤ) where
-    pub rule-first : (before after : List ℕ) (number count bytes : ℕ) → InRange first → InRange (move t first) →
-        Answers first second before after number count bytes ↔ Answers (move t first) second before after number count bytes
-    rule-first before after number count bytes here there =
-        same-answer first second (move t first) second before after number count bytes
-        (alike-by-length (length-moved t first) refl) (λ a. judged-moved first here there) (λ a. same-judged second)
-        (λ a. record { many = corners-moved t first; seen = λ x y h g. Iff·and (sees-moved t first x y h g) Iff·rfl })
+    pub rule-first : KeepsRange first → (before : List ℕ) (r : Result) →
+        Answers first second before r ↔ Answers (move t first) second before r
+    rule-first range =
+        same-answer first second (move t first) second (alike-by-length (length-moved t first) refl)
+        (λ a. record {
+          judged-first = judged-moved first range;
+          judged-second = same-judged second;
+          sight = record { many = corners-moved t first; seen = λ x y h g. Iff·and (sees-moved t first x y h g) Iff·rfl };
+        })
 
-    pub rule-second : (before after : List ℕ) (number count bytes : ℕ) → InRange second → InRange (move t second) →
-        Answers first second before after number count bytes ↔ Answers first (move t second) before after number count bytes
-    rule-second before after number count bytes here there =
-        same-answer first second first (move t second) before after number count bytes
-        (alike-by-length refl (length-moved t second)) (λ a. same-judged first) (λ a. judged-moved second here there)
-        (λ a. record { many = refl; seen = λ x y h g. Iff·and Iff·rfl (sees-moved t second x y (low a h) (low a g)) })
+    pub rule-second : KeepsRange second → (before : List ℕ) (r : Result) →
+        Answers first second before r ↔ Answers first (move t second) before r
+    rule-second range =
+        same-answer first second first (move t second) (alike-by-length refl (length-moved t second))
+        (λ a. record {
+          judged-first = same-judged first;
+          judged-second = judged-moved second range;
+          sight = record { many = refl; seen = λ x y h g. Iff·and Iff·rfl (sees-moved t second x y (low a h) (low a g)) };
+        })
       where
         low : {x : ℕ} → Alike first second → x < corners first → x < corners second
         low a h = omega arith
 
     -- so whatever is given for the drawings is given where one is moved, and by every program that meets the statement
-    pub rule-first-results : (before : List ℕ) (r s : Result) → InRange first → InRange (move t first) →
-        IsAnswer first second before r → IsAnswer (move t first) second before s → s ≡ r
-    rule-first-results before r s here there h g =
-        one-result (move t first) second before s r g (rule-first before (r .after) (r .number) (r .count) (r .bytes) here there .0 h)
+    pub rule-first-results : KeepsRange first → (before : List ℕ) (r s : Result) →
+        Answers first second before r → Answers (move t first) second before s → s ≡ r
+    rule-first-results range before r s h g =
+        answer-unique (move t first) second before s r g (rule-first range before r .0 h)
 
-    pub rule-second-results : (before : List ℕ) (r s : Result) → InRange second → InRange (move t second) →
-        IsAnswer first second before r → IsAnswer first (move t second) before s → s ≡ r
-    rule-second-results before r s here there h g =
-        one-result first (move t second) before s r g (rule-second before (r .after) (r .number) (r .count) (r .bytes) here there .0 h)
+    pub rule-second-results : KeepsRange second → (before : List ℕ) (r s : Result) →
+        Answers first second before r → Answers first (move t second) before s → s ≡ r
+    rule-second-results range before r s h g =
+        answer-unique first (move t second) before s r g (rule-second range before r .0 h)
 
     module _ (p : Program) (m : Meets p) (before : List ℕ) where
-      pub rule-first-program : InRange first → InRange (move t first) → p (move t first) second before ≡ p first second before
-      rule-first-program here there =
-          rule-first-results before (p first second before) (p (move t first) second before) here there
-          (m .answers first second before) (m .answers (move t first) second before)
+      pub rule-first-program : KeepsRange first → p (move t first) second before ≡ p first second before
+      rule-first-program range =
+          rule-first-results range before _ _ (m .answers first second before) (m .answers (move t first) second before)
 
-      pub rule-second-program : InRange second → InRange (move t second) → p first (move t second) before ≡ p first second before
-      rule-second-program here there =
-          rule-second-results before (p first second before) (p first (move t second) before) here there
-          (m .answers first second before) (m .answers first (move t second) before)
+      pub rule-second-program : KeepsRange second → p first (move t second) before ≡ p first second before
+      rule-second-program range =
+          rule-second-results range before _ _ (m .answers first second before) (m .answers first (move t second) before)
+
+  -- a drawing that is in range before and after is one of these
+  pub both-in-range : (d : List ℤ) → InRange d → InRange (move t d) → KeepsRange d
+  both-in-range d here there = (λ _. there, λ _. here)

@@ -1,90 +1,138 @@
--- 01, "How much each statement pins": "Three worthless programs are tried against the statements and found out by demand 2: one that
--- refuses everything, one that always returns the same cutting, one that writes nothing and reports success. A program with invented counts
--- fails there too." Each as a theorem about every program of its kind.
-use mathlib.Core.Path.{_≡_, refl, ap, _∙_}
+-- 01, "How much each statement pins": "Three worthless programs are tried against the statements and found out by
+-- demand 2: one that refuses everything, one that always returns the same cutting, one that writes nothing and
+-- reports success. A program with invented counts fails there too." First by single calls, with every buffer of
+-- enough room: a call of `desk` has lists of i32 and bytes only, so it is no `Program`, which takes every list. Then
+-- as a theorem about every program of the kind.
+use mathlib.Core.Path.{_≡_, sym, ap, _∙_}
 use mathlib.Core.List.{List, [], _∷_, _++_}
-use Prim.Native.Nat.{ℕ, _<_}
+use Prim.Native.Nat.{ℕ, _≤_, _<_}
 use native.Mathlib.Omega.{arith}
 use lib.IntN.{ℤ}
 use lib.ListN.{length, drop, getD, replicate}
 use Rattle.drawing.specs.Drawing.{corners}
 use Rattle.drawing.specs.Outlines.{S, Z, H}
 use Rattle.rules.specs.Cutting.{Pairs, pieces, one}
-use Rattle.rules.specs.Centre.{HasCentre, size, layout-size}
+use Rattle.rules.specs.Centre.{size, layout-size}
 use Rattle.rules.specs.Valid.{first-unique}
-use Rattle.desk.specs.Answer.{InBoth, Cut, FirstCutting}
+use Rattle.rules.specs.Result.{Result}
+use Rattle.desk.specs.Answer.{plan, FirstCutting, Answers}
+use Rattle.desk.specs.Unique.{answer-unique}
 use Rattle.demands.specs.Outlines.{s-with-s, z-with-h, h-with-h}
-use Rattle.demands.specs.Program.{Result, Program, Meets, one-result}
+use Rattle.demands.specs.Program.{Program, Meets, cutting, writing}
 
--- a buffer of zeros
-abbrev blank : ℕ → List ℕ
-blank n = replicate n 0
+-- ---- what three rows of the table leave to a call
+module _ (before : List ℕ) (r : Result) where
+  s-s : 10 ≤ length before → Answers S S before r → r ≡ writing (cutting 1 (4 ∷ 0 ∷ 0 ∷ 1 ∷ 2 ∷ 3 ∷ [])) before
+  s-s room a = answer-unique S S before r _ a (s-with-s before room)
 
--- what a program that meets the statement gives for three rows of the table
-module _ (p : Program) (m : Meets p) where
-  s-s : p S S (blank 10) ≡ record { number = 0; count = 1; bytes = 6; after = 4 ∷ 0 ∷ 0 ∷ 1 ∷ 2 ∷ 3 ∷ blank 4 }
-  s-s = one-result S S (blank 10) _ _ (m .answers S S (blank 10)) (s-with-s (blank 10) refl)
+  z-h : 20 ≤ length before → Answers Z H before r →
+      r ≡ writing (cutting 2 (5 ∷ 0 ∷ 0 ∷ 1 ∷ 2 ∷ 3 ∷ 5 ∷ 3 ∷ 3 ∷ 3 ∷ 4 ∷ 5 ∷ [])) before
+  z-h room a = answer-unique Z H before r _ a (z-with-h before room)
 
-  z-h : p Z H (blank 20) ≡
-      record { number = 0; count = 2; bytes = 12; after = 5 ∷ 0 ∷ 0 ∷ 1 ∷ 2 ∷ 3 ∷ 5 ∷ 3 ∷ 3 ∷ 3 ∷ 4 ∷ 5 ∷ blank 8 }
-  z-h = one-result Z H (blank 20) _ _ (m .answers Z H (blank 20)) (z-with-h (blank 20) refl)
-
-  h-h : p H H (blank 20) ≡ record { number = 0; count = 1; bytes = 8; after = 6 ∷ 0 ∷ 0 ∷ 1 ∷ 2 ∷ 3 ∷ 4 ∷ 5 ∷ blank 12 }
-  h-h = one-result H H (blank 20) _ _ (m .answers H H (blank 20)) (h-with-h (blank 20) refl)
+  h-h : 20 ≤ length before → Answers H H before r → r ≡ writing (cutting 1 (6 ∷ 0 ∷ 0 ∷ 1 ∷ 2 ∷ 3 ∷ 4 ∷ 5 ∷ [])) before
+  h-h room a = answer-unique H H before r _ a (h-with-h before room)
 
 abbrev number-of : Result → ℕ
 number-of r = r .number
 
--- ---- one that refuses everything
-pub refuses-everything : (p : Program) → ((first second : List ℤ) (before : List ℕ) → 0 < p first second before .number) → ¬ Meets p
-refuses-everything p refuses m = omega (arith, refuses S S (blank 10), ap number-of (s-s p m))
+abbrev count-of : Result → ℕ
+count-of r = r .count
 
--- ---- one that always returns the same cutting: the pieces of one set of pairs
-pub same-cutting : (p : Program) (C : Pairs) →
-    ((first second : List ℤ) (before : List ℕ) → p first second before .number ≡ 0 →
-    p first second before .count ≡ length (pieces (corners first) C)) →
-    ¬ Meets p
-same-cutting p C same m =
-    omega (
-      arith,
-      same Z H (blank 20) (ap number-of (z-h p m)),
-      same H H (blank 20) (ap number-of (h-h p m)),
-      ap (λ (r : Result). r .count) (z-h p m),
-      ap (λ (r : Result). r .count) (h-h p m),
-    )
+abbrev first-byte : Result → ℕ
+first-byte r = getD (r .after) 0 0
 
--- or the same bytes
-pub same-bytes : (p : Program) (laid : List ℕ) →
-    ((first second : List ℤ) (before : List ℕ) → p first second before .number ≡ 0 →
-    p first second before .after ≡ laid ++ drop (length laid) before) →
-    ¬ Meets p
-same-bytes p laid same m = go laid (same S S (blank 10) (ap number-of (s-s p m))) (same Z H (blank 20) (ap number-of (z-h p m)))
-  where
-    first-byte : Result → ℕ
-    first-byte r = getD (r .after) 0 0
+-- ---- call by call
+-- one that refuses is found out by S and S
+pub refusing : (before : List ℕ) (r : Result) → 10 ≤ length before → 0 < r .number → ¬ Answers S S before r
+refusing before r room lt a = omega (arith, lt, ap number-of (s-s before r room a))
 
-    go : (l : List ℕ) → p S S (blank 10) .after ≡ l ++ drop (length l) (blank 10) →
-        p Z H (blank 20) .after ≡ l ++ drop (length l) (blank 20) → ⊥
-    go [] e f = omega (arith, ap first-byte (s-s p m), ap (λ l. getD l 0 0) e)
-    go (x ∷ l) e f = omega (arith, ap first-byte (s-s p m), ap first-byte (z-h p m), ap (λ l. getD l 0 0) e, ap (λ l. getD l 0 0) f)
+-- one that writes nothing, by S and S
+pub writing-nothing : (before : List ℕ) (r : Result) → 10 ≤ length before → ¬ (getD before 0 0 ≡ 4) → r .after ≡ before →
+    ¬ Answers S S before r
+writing-nothing before r room n e a = n (ap (λ l. getD l 0 0) (sym e) ∙ ap first-byte (s-s before r room a))
 
--- ---- one that writes nothing, whatever it reports
-pub writes-nothing : (p : Program) → ((first second : List ℤ) (before : List ℕ) → p first second before .after ≡ before) → ¬ Meets p
-writes-nothing p nothing m = same-bytes p [] (λ first second before z. nothing first second before) m
+module _ (before before′ : List ℕ) (r s : Result) where
+  -- one that returns the same cutting, by Z and H, and H and H
+  pub one-cutting : (C : Pairs) → 20 ≤ length before → 20 ≤ length before′ → r .count ≡ length (pieces 6 C) →
+      s .count ≡ length (pieces 6 C) → Answers Z H before r → ¬ Answers H H before′ s
+  one-cutting C room room′ e g a b =
+      omega (arith, e, g, ap count-of (z-h before r room a), ap count-of (h-h before′ s room′ b))
 
--- ---- one with invented counts: "pieces and bytes are those of the told run"
-module _ (p : Program) (first second : List ℤ) (before : List ℕ) where
-  pub invented-counts : (C : Pairs) → FirstCutting first second C → p first second before .number ≡ 0 →
-      ¬ ((p first second before .count ≡ length (pieces (corners first) C))
-      × (p first second before .bytes ≡ size (pieces (corners first) C))) →
+  -- one that writes the same bytes, by S and S, and Z and H, unless what it should write stands there already
+  pub one-answer : (laid : List ℕ) → 10 ≤ length before → 20 ≤ length before′ → ¬ (getD before 0 0 ≡ 4) →
+      r .after ≡ laid ++ drop (length laid) before → s .after ≡ laid ++ drop (length laid) before′ →
+      Answers S S before r → ¬ Answers Z H before′ s
+  one-answer [] room room′ n e g a b = writing-nothing before r room n e a
+  one-answer (x ∷ l) room room′ n e g a b =
+      omega (
+        arith,
+        ap first-byte (s-s before r room a),
+        ap first-byte (z-h before′ s room′ b),
+        ap (λ l. getD l 0 0) e,
+        ap (λ l. getD l 0 0) g,
+      )
+
+-- one with invented counts, by any call: "pieces and bytes are those of the told run", and a refusal has none
+module _ (first second : List ℤ) (before : List ℕ) (r : Result) (a : Answers first second before r) where
+  pub told-counts : (C : Pairs) → FirstCutting first second C → r .number ≡ 0 →
+      (r .count ≡ length (pieces (corners first) C)) × (r .bytes ≡ size (pieces (corners first) C))
+  told-counts C f z =
+      let p = plan first second in
+      let g = a .given z in
+      let e = first-unique (p .cut) (p .piece) one (corners first) (g .cutting) C (g .is-first) f in
+      let c = g .carries in
+      let s = layout-size (p .centre) (pieces (corners first) (g .cutting)) (c .laid) (c .layout) in
+      (c .counted ∙ ap length e, c .used ∙ s ∙ ap size e)
+
+  pub no-counts : 0 < r .number → (r .count ≡ 0) × (r .bytes ≡ 0)
+  no-counts lt = let h = a .refused lt in (h .no-pieces, h .no-bytes)
+
+-- ---- every program of the kind
+abbrev blank : ℕ → List ℕ
+blank n = replicate n 0
+
+module _ (p : Program) where
+  -- one that refuses everything
+  pub refuses-everything : ((first second : List ℤ) (before : List ℕ) → 0 < p first second before .number) → ¬ Meets p
+  refuses-everything refuses m = refusing (blank 10) _ (omega arith) (refuses S S (blank 10)) (m .answers S S (blank 10))
+
+  zero-z-h : Meets p → p Z H (blank 20) .number ≡ 0
+  zero-z-h m = ap number-of (z-h (blank 20) _ (omega arith) (m .answers Z H (blank 20)))
+
+  -- one that always returns the same cutting: the pieces of one set of pairs
+  pub same-cutting : (C : Pairs) →
+      ((first second : List ℤ) (before : List ℕ) → p first second before .number ≡ 0 →
+      p first second before .count ≡ length (pieces (corners first) C)) →
       ¬ Meets p
-  invented-counts C f z wrong m =
-      let g = m .answers first second before .given z in
-      let e = first-unique (Cut first second) (HasCentre (InBoth first second)) one (corners first) (g .cutting) C (g .is-first) f in
-      let s = layout-size (InBoth first second) (pieces (corners first) (g .cutting)) (g .laid) (g .layout) in
-      wrong (g .counted ∙ ap length e, g .used ∙ s ∙ ap size e)
+  same-cutting C same m =
+      let z = ap number-of (h-h (blank 20) _ (omega arith) (m .answers H H (blank 20))) in
+      one-cutting (blank 20) (blank 20) _ _ C (omega arith) (omega arith)
+      (same Z H (blank 20) (zero-z-h m)) (same H H (blank 20) z)
+      (m .answers Z H (blank 20)) (m .answers H H (blank 20))
 
-  -- and a refusal has none
-  pub invented-refusal : 0 < p first second before .number →
-      ¬ ((p first second before .count ≡ 0) × (p first second before .bytes ≡ 0)) → ¬ Meets p
-  invented-refusal lt wrong m = let r = m .answers first second before .refused lt in wrong (r .no-pieces, r .no-bytes)
+  -- or the same bytes
+  pub same-bytes : (laid : List ℕ) →
+      ((first second : List ℤ) (before : List ℕ) → p first second before .number ≡ 0 →
+      p first second before .after ≡ laid ++ drop (length laid) before) →
+      ¬ Meets p
+  same-bytes laid same m =
+      let z = ap number-of (s-s (blank 10) _ (omega arith) (m .answers S S (blank 10))) in
+      one-answer (blank 10) (blank 20) _ _ laid (omega arith) (omega arith) (λ e. omega (arith, e))
+      (same S S (blank 10) z) (same Z H (blank 20) (zero-z-h m)) (m .answers S S (blank 10)) (m .answers Z H (blank 20))
+
+  -- one that writes nothing, whatever it reports
+  pub writes-nothing : ((first second : List ℤ) (before : List ℕ) → p first second before .after ≡ before) → ¬ Meets p
+  writes-nothing nothing m =
+      writing-nothing (blank 10) _ (omega arith) (λ e. omega (arith, e)) (nothing S S (blank 10)) (m .answers S S (blank 10))
+
+  -- one with invented counts
+  module _ (first second : List ℤ) (before : List ℕ) where
+    pub invented-counts : (C : Pairs) → FirstCutting first second C → p first second before .number ≡ 0 →
+        ¬ ((p first second before .count ≡ length (pieces (corners first) C))
+        × (p first second before .bytes ≡ size (pieces (corners first) C))) →
+        ¬ Meets p
+    invented-counts C f z wrong m = wrong (told-counts first second before _ (m .answers first second before) C f z)
+
+    pub invented-refusal : 0 < p first second before .number →
+        ¬ ((p first second before .count ≡ 0) × (p first second before .bytes ≡ 0)) → ¬ Meets p
+    invented-refusal lt wrong m = wrong (no-counts first second before _ (m .answers first second before) lt)

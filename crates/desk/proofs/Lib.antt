@@ -1,1 +1,3 @@
+pub mod Refuses
+pub mod Cutting
 pub mod Laws

@@ -8,7 +8,8 @@ use mir.Val.{toZ, ofZ}
 use mir.Facts.{toZ-ofZ}
 use borrow.Author.Needs.{sfits-of}
 use Rattle.whole.specs.Bounds.{Val, fit, par, loc, less, times}
-use Rattle.drawing.specs.Drawing.{Point, furthest}
+use Rattle.limits.specs.Limits.{furthest}
+use Rattle.drawing.specs.Drawing.{Point}
 use Rattle.drawing.specs.Tells.{Tells}
 use Rattle.drawing.specs.Parts.{Close}
 

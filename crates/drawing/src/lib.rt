@@ -4,7 +4,6 @@ ghost use Rattle.drawing.specs.Judgement.{Judgement};
 ghost use Rattle.drawing.specs.Sight.{Sight};
 
 mod corners;
-mod limits;
 mod seeing;
 mod segment;
 mod simple;

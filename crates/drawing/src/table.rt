@@ -2,11 +2,12 @@
 ghost use mathlib.Core.Path.{_≡_};
 ghost use Prim.Native.Nat.{_<_, _≤_};
 ghost use lib.ListN.{length, set};
-ghost use Rattle.drawing.specs.Drawing.{corners, most-corners};
-ghost use Rattle.drawing.specs.Sight.{Limits, Seen, place, all-cells};
+ghost use Rattle.limits.specs.Limits.{most-corners, all-cells, place};
+ghost use Rattle.drawing.specs.Drawing.{corners};
+ghost use Rattle.drawing.specs.Sight.{Limits, Seen};
 ghost use Rattle.drawing.specs.Parts.{RowFilled};
-use crate::limits::ROW;
 use crate::seeing::sees;
+use limits::ROW;
 
 pub fn fill(xy: &[i32], cells: &mut [u8])
     requires { ⌜ Limits (now xy) × (all-cells ≤ length (now cells)) ⌝ }

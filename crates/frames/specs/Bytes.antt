@@ -10,7 +10,8 @@ use borrow.Author.Tests.{eq-eqb, ne-eqb, le-leb, lt-leb}
 use lib.Dec.{eqb, leb}
 use lib.IntN.{ℤ}
 use lib.ListN.{length, length-append}
-use Rattle.frames.specs.Frames.{digit, join, bytes, number, numbers, most-corners, framed, frame}
+use Rattle.limits.specs.Limits.{most-corners}
+use Rattle.frames.specs.Frames.{digit, join, bytes, number, numbers, framed, frame}
 use Rattle.frames.specs.Reader.{worth}
 
 -- ---- a digit, and what it is worth

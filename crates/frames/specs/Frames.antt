@@ -8,6 +8,7 @@ use Prim.Native.Nat.{ℕ, _+_, _*_, _-_, _/_, _%_}
 use lib.Dec.{eqb, leb, ltb}
 use lib.IntN.{ℤ, pos, _-ℤ_}
 use lib.ListN.{length}
+use Rattle.limits.specs.Limits.{most-corners}
 
 -- ---- 01: "lines of hexadecimal, one frame a line, digits 0-9 and A-F, each ended by a line feed"
 abbrev pub line-feed : ℕ
@@ -68,14 +69,8 @@ first-tag = 0x10
 abbrev pub second-tag : ℕ
 second-tag = 0x20
 
-abbrev pub most-corners : ℕ
-most-corners = 0x40
-
--- an x and a y for each corner
-abbrev pub most-numbers : ℕ
-most-numbers = 2 * most-corners
-
--- the numbers x0, y0, x1, y1 and so on of a line that is a frame with this first byte; none for a line of another form
+-- the numbers x0, y0, x1, y1 and so on of a line that is a frame with this first byte; none for a line of another form. 40 is the limit of
+-- 64 corners.
 abbrev pub framed : ℕ → Option (List ℕ) → Option (List ℤ)
 framed tag none = none
 framed tag (some []) = none

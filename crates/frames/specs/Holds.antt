@@ -8,7 +8,8 @@ use Prim.Native.Nat.{ℕ, _*_, _≤_, _<_}
 use native.Mathlib.Omega.{arith}
 use lib.IntN.{ℤ}
 use lib.ListN.{length, take}
-use Rattle.frames.specs.Frames.{line-feed, bytes, numbers, most-corners, frame}
+use Rattle.limits.specs.Limits.{most-corners}
+use Rattle.frames.specs.Frames.{line-feed, bytes, numbers, frame}
 use Rattle.frames.specs.Reader.{nothing-read}
 use Rattle.frames.specs.Digits.{Digits, value-on}
 use Rattle.frames.specs.declared.Line.{Line}

@@ -11,7 +11,8 @@ use native.Mathlib.Omega.{arith}
 use lib.IntN.{ℤ}
 use lib.ListN.{length, set, length-append, length-set}
 use lib.Seq.{append-snoc, take-suc-set}
-use Rattle.frames.specs.Frames.{line-feed, two's-complement, most-corners, most-numbers, frame}
+use Rattle.limits.specs.Limits.{most-corners, most-numbers}
+use Rattle.frames.specs.Frames.{line-feed, two's-complement, frame}
 use Rattle.frames.specs.Reader.{worth, closes, begins, reads, valued}
 use Rattle.frames.specs.Reading.{closes-other, closes-head, closes-part, closes-early, closes-frame}
 use Rattle.frames.specs.Reading.{begins-more, begins-below, begins-many, begins-body}

@@ -7,7 +7,8 @@ use Prim.Native.Nat.{ℕ, _+_, _*_, _-_, _%_}
 use lib.Dec.{eqb, leb, ltb}
 use lib.IntN.{ℤ}
 use lib.ListN.{length, take, set}
-use Rattle.frames.specs.Frames.{digit, line-feed, two's-complement, first-tag, second-tag, most-corners, Event, pair, fault}
+use Rattle.limits.specs.Limits.{most-corners}
+use Rattle.frames.specs.Frames.{digit, line-feed, two's-complement, first-tag, second-tag, Event, pair, fault}
 use Rattle.frames.specs.declared.Line.{Line}
 use Rattle.frames.specs.declared.Reader.{Reader}
 use Rattle.frames.specs.declared.Fed.{Fed}

@@ -6,7 +6,8 @@ use Prim.Native.Nat.{ℕ, _+_, _*_, _-_, _<_, _≤_}
 use borrow.Author.Tests.{eq-eqb, ne-eqb, lt-ltb, le-ltb, le-leb, lt-leb}
 use lib.IntN.{ℤ}
 use lib.ListN.{length, set}
-use Rattle.frames.specs.Frames.{line-feed, two's-complement, most-corners}
+use Rattle.limits.specs.Limits.{most-corners}
+use Rattle.frames.specs.Frames.{line-feed, two's-complement}
 use Rattle.frames.specs.Reader.{worth, closes, begins, goes-on, reads, valued}
 use Rattle.frames.specs.declared.Line.{Line}
 use Rattle.frames.specs.declared.frame.After.{After}

@@ -9,7 +9,8 @@ use borrow.Author.Tests.{leb-true, ltb-false}
 use lib.Dec.{eqb, leb, ltb}
 use lib.IntN.{ℤ}
 use lib.ListN.{length, drop, length-drop}
-use Rattle.frames.specs.Frames.{line-feed, first-tag, second-tag, most-corners}
+use Rattle.limits.specs.Limits.{most-corners}
+use Rattle.frames.specs.Frames.{line-feed, first-tag, second-tag}
 use Rattle.frames.specs.Reader.{worth, closes, begins, goes-on, reads, valued, on-first, on-second, steps, fed-by, feeds}
 use Rattle.frames.specs.declared.Line.{Line}
 use Rattle.frames.specs.declared.Reader.{Reader}

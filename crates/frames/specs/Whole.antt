@@ -12,7 +12,8 @@ use lib.IntN.{ℤ}
 use lib.ListN.{length, take, length-append}
 use lib.Seq.{append-snoc}
 use Rattle.frames.specs.Frames.{line-feed, first-tag, second-tag, frame, Text, in-front, led-by, cut}
-use Rattle.frames.specs.Frames.{most-numbers, Event, pair, fault, paired, told, events}
+use Rattle.limits.specs.Limits.{most-numbers}
+use Rattle.frames.specs.Frames.{Event, pair, fault, paired, told, events}
 use Rattle.frames.specs.Reader.{nothing-read, fresh, reads, on-first, on-second, steps, ends-in-fault, told-by, from}
 use Rattle.frames.specs.Bytes.{bytes-length}
 use Rattle.frames.specs.Holds.{Holds, in-head, in-body, holds-nothing, Doomed, Then}

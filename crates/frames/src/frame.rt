@@ -2,15 +2,13 @@
 use crate::Line;
 use crate::digits::NO_DIGIT;
 use crate::digits::worth;
+use limits::MOST_CORNERS;
 ghost use mathlib.Core.Path.{_≡_};
 ghost use Prim.Native.Nat.{_<_};
 ghost use Rattle.frames.specs.Frames.{two's-complement};
 ghost use Rattle.frames.specs.Reader.{nothing-read, closes, begins, reads};
 
 const LINE_FEED: u8 = 10;
-
-// 01: "a byte n from 00 to 40 (hexadecimal)".
-const MOST_CORNERS: u32 = 0x40;
 
 // The digits of the first two bytes, and of a number, but for the last.
 const HEAD: usize = 3;
@@ -93,13 +91,14 @@ fn begin(tag: u8, line: Line, value: u32) -> After
     if value < empty {
         return After::Bad;
     }
-    let n = value - empty;
+    // 01: "a byte n from 00 to 40 (hexadecimal)"
+    let n = (value - empty) as usize;
     if n > MOST_CORNERS {
         return After::Bad;
     }
     After::On(Line {
         head: false,
-        want: 2 * (n as usize),
+        want: 2 * n,
         at: 0,
         part: 0,
         value: 0,

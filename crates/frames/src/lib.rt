@@ -13,9 +13,6 @@ use frame::blank;
 use turn::Step;
 use turn::take;
 
-// How many numbers a frame has at most, an x and a y for each corner: what each buffer should have.
-pub const MOST_NUMBERS: usize = 128;
-
 // What is read of a line. Any values of the fields will do: what each means for the next byte is stated for all of them.
 pub struct Line {
     // within the first two bytes

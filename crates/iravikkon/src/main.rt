@@ -1,15 +1,15 @@
 // The desk program: reads standard input to its end and writes the answer lines to standard output. It only moves bytes between the
 // descriptors and `terminal`, which has all the logic.
-use frames::MOST_NUMBERS;
 use libc::STDIN_FILENO;
 use libc::STDOUT_FILENO;
+use limits::MOST_NUMBERS;
 use terminal::MOST_AT_END;
 use terminal::MOST_BEYOND;
 use terminal::Ran;
 use terminal::Session;
 ghost use Prim.Native.Nat.{_≤_};
 ghost use lib.ListN.{length};
-ghost use Rattle.frames.specs.Frames.{most-numbers};
+ghost use Rattle.limits.specs.Limits.{most-numbers};
 
 // Bytes read at once, as many as `io::large_buffer` has.
 const CHUNK: usize = 65536;

@@ -10,12 +10,14 @@ use lib.ListN.{length, length-append, length-map}
 use lib.Dec.{T, eqb, ltb, eqb→eq, ltb→lt, lt→ltb}
 use mir.Facts.{and-yes, yes-and}
 use Rattle.rules.specs.Lists.{In, Distinct, Rise, rise-le, rise-from, rise-last}
-use Rattle.rules.specs.Cutting.{Pairs, Cross, Inner, Uncrossed, Joined, Near, Region, Tree, corners, below, told, tree, pieces, flat, run, last, one}
+use Rattle.rules.specs.Cutting.{Pairs, Cross, Inner, Uncrossed, Joined, Near, Region, Tree, corners, below, told, tree, pieces, flat, last}
 use Rattle.rules.specs.Centre.{size}
-use Rattle.rules.specs.Trees.{Node, rise-is-last, weight-told, weight-one, length-run}
+use Rattle.rules.specs.Trees.{Node, rise-is-last}
 use Rattle.rules.specs.TreeOf.{TreeOf, of-rise, of-unique}
 use Rattle.rules.specs.Lines.{Stands, node-told, stands-told, Piece, told-stands}
-use Rattle.rules.specs.Regions.{last-of, tree-node, pair-line, line-pair, tree-all, pieces-regions, pieces-distinct}
+use Rattle.rules.specs.Walk.{Wide}
+use Rattle.rules.specs.AnyPairs.{any-run, any-size, any-few, any-room}
+use Rattle.rules.specs.Regions.{last-of, tree-node, pair-line, line-pair, pieces-regions, pieces-distinct}
 
 -- ---- one piece more than cuts: each cut closes a piece, and each piece but the first is closed by a cut
 pub record OneMore (n : ℕ) (C : Pairs) : Type 0 where
@@ -95,44 +97,30 @@ one-more n C le un = record {
         rw (closes a b (f .0) (f .1)) at (in-map ends (a ∷ corners (f .0)) (below 0 t) (stands-told 0 t a b (f .0) (f .1)))
 
 -- ---- the bytes
--- by the numbers told, k for a piece; at least three for each piece; three for each triangle
-size-flat : (l : List (List ℕ)) → size l ≡ 2 * length l + length (flat l)
-size-flat [] = refl
-size-flat (S ∷ l) = omega (arith, size-flat l, length-append S (flat l))
-
-flat-more : (l : List (List ℕ)) → ((S : List ℕ) → In S l → 3 ≤ length S) → 3 * length l ≤ length (flat l)
-flat-more [] f = omega arith
-flat-more (S ∷ l) f = omega (arith, length-append S (flat l), f S (inl refl), flat-more l (λ S′ i. f S′ (inr i)))
-
+-- three for each triangle
 flat-threes : (l : List (List ℕ)) → ((S : List ℕ) → In S l → length S ≡ 3) → length (flat l) ≡ 3 * length l
 flat-threes [] f = omega arith
 flat-threes (S ∷ l) f = omega (arith, length-append S (flat l), f S (inl refl), flat-threes l (λ S′ i. f S′ (inr i)))
 
 module _ (n : ℕ) (C : Pairs) (le : 3 ≤ n) (un : Uncrossed n C) where
-  -- each corner is told once, and two more numbers for each cut: its ends
-  run-length : length (run n C) + 2 ≡ 2 * length (pieces n C) + n
-  unfolding pieces
-  run-length =
-      let h = tree-all n C un le in
-      omega (
-        arith,
-        length-run (λ a b. Unit {0}) (λ S. Unit {0}) 0 (n - 1) (tree n C) h,
-        weight-told one (λ a b. Unit {0}) (λ S. Unit {0}) 0 (n - 1) (tree n C) h,
-        weight-one (told 0 (tree n C)),
-      )
+  no-neighbours : Wide C
+  no-neighbours = record { apart = λ a b c. let i = un .inner a b c in not-next a b (i .rises) (λ e. i .no-side (inl e)) }
+    where
+      not-next : (a b : ℕ) → a < b → ¬ (b ≡ suc a) → suc a < b
+      not-next a b lt ne = omega arith
 
   pub pieces-size : size (pieces n C) + 2 ≡ 4 * length (pieces n C) + n
-  pieces-size = omega (arith, size-flat (pieces n C), run-length)
+  pieces-size = any-size no-neighbours n le
 
   pub pieces-few : length (pieces n C) + 2 ≤ n
-  pieces-few = omega (arith, run-length, flat-more (pieces n C) (λ S i. pieces-regions n C le un S .0 i .three))
+  pieces-few = any-few no-neighbours n le
 
   pub room-enough : size (pieces n C) + 10 ≤ 5 * n
-  room-enough = omega (arith, pieces-size, pieces-few)
+  room-enough = omega (arith, any-room no-neighbours n le)
 
   -- a cutting into triangles takes all of it
   pub triangles-take : ((S : List ℕ) → In S (pieces n C) → length S ≡ 3) → size (pieces n C) + 10 ≡ 5 * n
-  triangles-take f = omega (arith, pieces-size, run-length, flat-threes (pieces n C) f)
+  triangles-take f = omega (arith, pieces-size, any-run no-neighbours n le, flat-threes (pieces n C) f)
 
 -- ---- and there is one for each n: the fan of all lines from corner 0
 unfoldable pub fan : ℕ → Pairs

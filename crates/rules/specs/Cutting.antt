@@ -7,9 +7,10 @@
 --   w a b     what a piece on the closing line a b weighs   (01: each piece counts one)
 use mathlib.Core.Path.{_≡_, refl}
 use mathlib.Core.Bool.{Bool, true, false, _&&_, _||_}
-use mathlib.Core.Logic.{_⊎_, _↔_}
+use mathlib.Core.Logic.{_⊎_, inl, inr, _↔_}
 use mathlib.Core.List.{List, [], _∷_, _++_}
 use Prim.Native.Nat.{ℕ, zero, suc, _+_, _-_, _≤_, _<_}
+use native.Mathlib.Omega.{arith}
 use lib.Dec.{T, eqb, ltb}
 use lib.ListN.{length}
 use Rattle.rules.specs.Lists.{In, Rising}
@@ -127,6 +128,10 @@ abbrev pub Less : List ℕ → List ℕ → Type 0
 Less [] t = ⊥
 Less (a ∷ s) [] = ⊥
 Less (a ∷ s) (b ∷ t) = (a < b) ⊎ ((a ≡ b) × Less s t)
+
+-- tried on 01's Z and H: the cut 3-5 is told 0 1 2 3 5, 3 4 5 and the cut 0-2, which comes later, 0 2 3 4 5, 0 1 2
+z-h-order : Less (0 ∷ 1 ∷ 2 ∷ 3 ∷ 5 ∷ 3 ∷ 4 ∷ 5 ∷ []) (0 ∷ 2 ∷ 3 ∷ 4 ∷ 5 ∷ 0 ∷ 1 ∷ 2 ∷ [])
+z-h-order = inr (refl, inl (omega arith))
 
 -- ---- what a cutting weighs: each piece by its closing line, from its first corner to its last
 abbrev pub last : ℕ → List ℕ → ℕ

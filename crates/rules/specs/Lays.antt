@@ -1,15 +1,15 @@
 -- Where `sees` is a Boolean test, centres are computed: whether a piece has one, which is the lowest, and the bytes of an answer.
-use mathlib.Core.Path.{_≡_, refl, subst}
+use mathlib.Core.Path.{_≡_, refl, sym, subst}
 use mathlib.Core.Bool.{Bool, true, false, not, _&&_, _||_}
-use mathlib.Core.Logic.{inl, inr, _↔_}
-use mathlib.Core.List.{List, [], _∷_, _++_}
-use Prim.Native.Nat.{ℕ, _≤_}
+use mathlib.Core.Logic.{inl, inr, ⊎-map, _↔_}
+use mathlib.Core.List.{List, [], _∷_, _++_, append-assoc}
+use Prim.Native.Nat.{ℕ, _+_, _≤_}
 use native.Mathlib.Omega.{arith}
 use lib.Dec.{T, eqb}
 use lib.Ieee.Fits.{and-i, and-l, and-r}
-use lib.ListN.{length}
+use lib.ListN.{length, length-append}
 use Rattle.rules.specs.Lists.{In, Rising}
-use Rattle.rules.specs.Centre.{Centre, HasCentre, Lowest, Layout}
+use Rattle.rules.specs.Centre.{Centre, HasCentre, Lowest, LowestOrZero, Layout, size}
 
 -- ---- a test of all members of a list, of some member, and the first member that passes (0 where none does)
 -- What a `let` binds and the branches of `elim` wait: nothing is tested that need not be.
@@ -91,16 +91,78 @@ module _ (sees : ℕ → ℕ → Bool) where
     lowest = λ y c. first-lowest (λ x. all (sees x) S) S r y (c .0) (passes-all (sees y) S (c .1));
   }
 
-  -- ---- the bytes of an answer
-  abbrev pub lays : List (List ℕ) → List ℕ
-  lays [] = []
-  lays (S ∷ l) = length S ∷ centre S ∷ (S ++ lays l)
+-- ---- where a piece may have no centre, 0 is computed for it
+none-first : (p : ℕ → Bool) (s : List ℕ) → some p s ≡ false → first p s ≡ 0
+none-first p [] e = refl
+none-first p (x ∷ s) e = by (p x) e (none-first p s)
+  where
+    by : (b : Bool) → _≡_ {A = Bool} (elim b [ true ↦ true | false ↦ some p s ]) false →
+        (some p s ≡ false → first p s ≡ 0) → _≡_ {A = ℕ} (elim b [ true ↦ x | false ↦ first p s ]) 0
+    by true k f = absurd (subst T k tt)
+    by false k f = f k
 
-  pub lays-layout : (l : List (List ℕ)) → ((S : List ℕ) → In S l → Rising S) → ((S : List ℕ) → In S l → HasCentre (Seen sees) S) →
-      Layout (Seen sees) l (lays l)
-  lays-layout [] r h = refl
-  lays-layout (S ∷ l) r h =
-      (centre S, lays l, centre-lowest S (r S (inl refl)) (h S (inl refl)), refl, lays-layout l (λ Q i. r Q (inr i)) (λ Q i. h Q (inr i)))
+pub centre-shown : (sees : ℕ → ℕ → Bool) (S : List ℕ) → Rising S → LowestOrZero (Seen sees) (centre sees S) S
+centre-shown sees S r = go (hasCentre sees S) refl
+  where
+    go : (b : Bool) → hasCentre sees S ≡ b → LowestOrZero (Seen sees) (centre sees S) S
+    go true e = inl (centre-lowest sees S r (has-centre sees S .0 (subst T (sym e) tt)))
+    go false e = inr ((λ h. subst T e (has-centre sees S .1 h)), none-first _ S e)
+
+-- readings of sight that agree show the same
+pub lowest-or-zero-map : {sees sees′ : ℕ → ℕ → Type 0} → ((x y : ℕ) → sees x y ↔ sees′ x y) → (x : ℕ) (S : List ℕ) →
+    LowestOrZero sees x S → LowestOrZero sees′ x S
+lowest-or-zero-map {sees} {sees′} same x S = ⊎-map low none
+  where
+    to : (x : ℕ) → Centre sees x S → Centre sees′ x S
+    to x c = (c .0, λ y i. same x y .0 (c .1 y i))
+
+    from : (x : ℕ) → Centre sees′ x S → Centre sees x S
+    from x c = (c .0, λ y i. same x y .1 (c .1 y i))
+
+    low : Lowest sees x S → Lowest sees′ x S
+    low l = record { centre = to x (l .centre); lowest = λ y c. l .lowest y (from y c) }
+
+    none : (¬ HasCentre sees S) × (x ≡ 0) → (¬ HasCentre sees′ S) × (x ≡ 0)
+    none h = ((λ k. h .0 (k .0, from (k .0) (k .1))), h .1)
+
+-- where there is a centre the lowest is shown
+pub lowest-or-zero-lowest : (sees : ℕ → ℕ → Type 0) (x : ℕ) (S : List ℕ) → HasCentre sees S → LowestOrZero sees x S → Lowest sees x S
+lowest-or-zero-lowest sees x S has (inl h) = h
+lowest-or-zero-lowest sees x S has (inr h) = absurd (h .0 has)
+
+-- ---- the bytes computed: c says what stands in the centre's place
+abbrev pub lay : (List ℕ → ℕ) → List ℕ → List ℕ
+lay c S = length S ∷ c S ∷ S
+
+abbrev pub layAll : (List ℕ → ℕ) → List (List ℕ) → List ℕ
+layAll c [] = []
+layAll c (S ∷ l) = lay c S ++ layAll c l
+
+-- nothing stands there yet
+abbrev pub blank : List ℕ → ℕ
+blank S = 0
+
+module _ (c : List ℕ → ℕ) where
+  pub lay-layout : (shown : ℕ → List ℕ → Type 0) (l : List (List ℕ)) → ((S : List ℕ) → In S l → shown (c S) S) →
+      Layout shown l (layAll c l)
+  lay-layout shown [] h = refl
+  lay-layout shown (S ∷ l) h = (c S, layAll c l, h S (inl refl), refl, lay-layout shown l (λ Q i. h Q (inr i)))
+
+  pub lay-append : (l m : List (List ℕ)) → layAll c (l ++ m) ≡ layAll c l ++ layAll c m
+  lay-append [] m = refl
+  lay-append (S ∷ l) m = rw (lay-append l m, append-assoc)
+
+  pub lay-size : (l : List (List ℕ)) → length (layAll c l) ≡ size l
+  lay-size [] = refl
+  lay-size (S ∷ l) = omega (arith, length-append S (layAll c l), lay-size l)
+
+-- with the lowest centres
+abbrev pub lays : (ℕ → ℕ → Bool) → List (List ℕ) → List ℕ
+lays sees = layAll (centre sees)
+
+pub lays-layout : (sees : ℕ → ℕ → Bool) (l : List (List ℕ)) → ((S : List ℕ) → In S l → Rising S) →
+    ((S : List ℕ) → In S l → HasCentre (Seen sees) S) → Layout (Lowest (Seen sees)) l (lays sees l)
+lays-layout sees l r h = lay-layout (centre sees) (Lowest (Seen sees)) l (λ S i. centre-lowest sees S (r S i) (h S i))
 
 -- ---- tried: the outline E of 01, a dart whose corners 0 and 2 do not see each other
 dart : ℕ → ℕ → Bool

@@ -51,12 +51,12 @@ module _ (C : Pairs) where
   line-linked a b (link c u r) X h = inr (h .0)
 
   -- ---- `furthest` is the next corner
-  record Next (a top b : ℕ) : Type 0 where
-    linked : Linked a b
-    clear : Clear a b top
-    below : (t : ℕ) → top ≤ t → suc a < t → b < t
+  pub record Next (a top b : ℕ) : Type 0 where
+    pub linked : Linked a b
+    pub clear : Clear a b top
+    pub below : (t : ℕ) → top ≤ t → suc a < t → b < t
 
-  furthest-next : (a top : ℕ) → Next a top (furthest C a top)
+  pub furthest-next : (a top : ℕ) → Next a top (furthest C a top)
   furthest-next a zero = record { linked = inl refl; clear = λ y l m c. absurd (omega arith); below = λ t le lt. lt }
   furthest-next a (suc k) = go (furthest-next a k) (C a k) refl
     where
@@ -76,7 +76,7 @@ module _ (C : Pairs) where
 
   -- ---- `chain` is the chain
   module _ (wide : (a b : ℕ) → T (C a b) → suc a < b) where
-    above : (a b : ℕ) → Linked a b → a < b
+    pub above : (a b : ℕ) → Linked a b → a < b
     above a b (inl e) = omega arith
     above a b (inr c) = omega (arith, wide a b c)
 
@@ -85,16 +85,16 @@ module _ (C : Pairs) where
     tree-line a b (link d v r) lt (inl e) h = absurd (omega arith)
     tree-line a b (link d v r) lt (inr c) h = (c, h)
 
-    under : (a b : ℕ) (u : Tree) → Linked a b → (suc a < b → TreeOf a b u) → (q : Bool) → ltb (suc a) b ≡ q →
+    pub under : (a b : ℕ) (u : Tree) → Linked a b → (suc a < b → TreeOf a b u) → (q : Bool) → ltb (suc a) b ≡ q →
         LineOf a b (elim q [ true ↦ u | false ↦ leaf ]) (TreeOf a b (elim q [ true ↦ u | false ↦ leaf ]))
     under a b u l f true e = let w = ltb→lt (suc a) b (rw e tt) in tree-line a b u w l (f w)
     under a b u l f false e = omega (arith, above a b l, nltb→le (suc a) b (rw e tt))
 
     -- the fuel f is enough for the chain from a to j: each call brings j + top nearer to twice a
-    abbrev Enough : ℕ → ℕ → ℕ → ℕ → Type 0
+    abbrev pub Enough : ℕ → ℕ → ℕ → ℕ → Type 0
     Enough f a top j = (a ≤ j) × (a < j → suc a < top) × (j ≤ top) × (top ≤ suc j) × (j + top ≤ a + a + f)
 
-    of-chain : (f a top j : ℕ) → Enough f a top j → ChainOf a top j (chain C f a top j)
+    pub of-chain : (f a top j : ℕ) → Enough f a top j → ChainOf a top j (chain C f a top j)
     of-chain zero a top j en = omega (arith, en)
     of-chain (suc f) a top j en = go (of-chain f a b b) (of-chain f b (suc j) j) (ltb a j) refl
       where

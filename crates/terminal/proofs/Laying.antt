@@ -11,11 +11,13 @@ use Rattle.frames.specs.Frames.{Event, pair, fault, answer-line, refusal-line, 
 use Rattle.frames.specs.Answer.{Written}
 use Rattle.frames.specs.Reader.{ends-in-fault}
 use Rattle.frames.specs.declared.Reader.{Reader}
+use Rattle.limits.specs.Limits.{room}
+use Rattle.rules.specs.Result.{Result}
 use Rattle.desk.specs.Answer.{Answers}
-use Rattle.terminal.specs.Terminal.{room, reply, Answered, LineOf}
+use Rattle.terminal.specs.Terminal.{reply, line-for, Answered, LineOf}
 use Rattle.terminal.specs.Longest.{pair-short}
 use Rattle.terminal.specs.Running.{Wrote, Ended}
-use Rattle.terminal.specs.Laying.{Roomy, Laid}
+use Rattle.terminal.specs.Laying.{Space, Laid}
 use Rattle.terminal.specs.Whole.{lines-append}
 use Rattle.terminal.specs.declared.Session.{Session}
 use Rattle.terminal.specs.declared.Session.the-variants as session
@@ -31,32 +33,23 @@ pub laid-fault : (out out′ : List ℕ) (at r : ℕ) → at + length fault-line
 laid-fault out out′ at r fits w = laid fault fault-line out out′ at r refl fits w
 
 -- the line for what comes back of a pair, by its number
-module _ {a b : List ℤ} {before after : List ℕ} {number count bytes : ℕ} (roomy : length before ≡ room)
-    (h : Answers a b before after number count bytes) {out out′ : List ℕ} {at r : ℕ} (space : Roomy a out at) where
-  laid-pair : (line : List ℕ) → line ≡ reply number count (take bytes after) → Written line out at r out′ → Laid (pair a b) out at r out′
+module _ {a b : List ℤ} {before : List ℕ} {x : Result} (roomy : length before ≡ room) (h : Answers a b before x)
+    {out out′ : List ℕ} {at r : ℕ} (space : Space a out at) where
+  laid-pair : (line : List ℕ) → line ≡ line-for x → Written line out at r out′ → Laid (pair a b) out at r out′
   laid-pair line e w =
-      let is : Answered a b line = record {
-        before = before;
-        after = after;
-        number = number;
-        pieces = count;
-        bytes = bytes;
-        roomy = roomy;
-        answers = h;
-        replied = e;
-      } in
+      let is : Answered a b line = record { before = before; result = x; roomy = roomy; answers = h; replied = e } in
       let s = pair-short a b line is in
       laid (pair a b) line out out′ at r is (omega (arith, s .at-most, s .own, space)) w
 
-  pub laid-refusal : (number ≡ 0 → ⊥) → Written (refusal-line number) out at r out′ → Laid (pair a b) out at r out′
-  laid-refusal n w = laid-pair (refusal-line number) (refused number n) w
+  pub laid-refusal : (x .number ≡ 0 → ⊥) → Written (refusal-line (x .number)) out at r out′ → Laid (pair a b) out at r out′
+  laid-refusal n w = laid-pair (refusal-line (x .number)) (refused (x .number) n) w
     where
-      refused : (k : ℕ) → (k ≡ 0 → ⊥) → refusal-line k ≡ reply k count (take bytes after)
+      refused : (k : ℕ) → (k ≡ 0 → ⊥) → refusal-line k ≡ reply k (x .count) (take (x .bytes) (x .after))
       refused zero n = absurd (n refl)
       refused (suc k) n = refl
 
-  pub laid-answer : number ≡ 0 → Written (answer-line count (take bytes after)) out at r out′ → Laid (pair a b) out at r out′
-  laid-answer z w = laid-pair (answer-line count (take bytes after)) (rw z) w
+  pub laid-answer : x .number ≡ 0 → Written (answer-line (x .count) (take (x .bytes) (x .after))) out at r out′ → Laid (pair a b) out at r out′
+  laid-answer z w = laid-pair (answer-line (x .count) (take (x .bytes) (x .after))) (rw z) w
 
 -- ---- behind what stands there
 pub wrote-none : (out : List ℕ) → Wrote [] out out 0

@@ -13,10 +13,11 @@ use Rattle.frames.specs.Takes.{taken, feed-pair-takes, PairTakes}
 use Rattle.frames.specs.declared.Reader.{Reader}
 use Rattle.frames.specs.declared.Fed.{Fed}
 use Rattle.frames.specs.declared.Fed.the-variants as fed
-use Rattle.terminal.specs.Longest.{longest-line, pair-short}
+use Rattle.limits.specs.Limits.{longest-line}
+use Rattle.terminal.specs.Longest.{pair-short}
 use Rattle.terminal.specs.Going.{Gone, telling, reads, reads-more, reads-pair, reads-fault}
 use Rattle.terminal.specs.Running.{Wrote, Lent, Done}
-use Rattle.terminal.specs.Laying.{Roomy, Laid}
+use Rattle.terminal.specs.Laying.{Space, Laid}
 use Rattle.terminal.specs.declared.Session.{Session}
 use Rattle.terminal.specs.declared.Session.the-variants as session
 use Rattle.terminal.proofs.Laying.{laid-fault, wrote-none, wrote-more}
@@ -84,7 +85,7 @@ module _ {r₀ : Reader} {f₀ g₀ : List ℤ} {chunk out₀ : List ℕ} where
       takes : PairTakes r f′ g′ (length chunk) at n m next
       takes = feed-pair-takes r f g chunk at q e
 
-      pub so-room : Roomy (take n f′) out len
+      pub so-room : Space (take n f′) out len
       so-room =
           let t = takes in
           let k = length-take n f′ in

@@ -8,10 +8,14 @@ use lib.ListN.{length, take, drop, take-append-drop, length-take}
 use Rattle.frames.specs.Frames.{Event}
 use Rattle.terminal.specs.Unique.{lines-unique}
 use Rattle.terminal.specs.Going.{goes, at-end}
-use Rattle.terminal.specs.Running.{Wrote, Runs, Finishes}
+use Rattle.terminal.specs.Running.{opened, Wrote, Runs, Finishes}
 use Rattle.terminal.specs.declared.Session.{Session}
 use Rattle.terminal.specs.declared.Ran.{Ran}
 use Rattle.terminal.specs.declared.Ran.the-variants as ran
+
+-- `open`
+pub open-unique : (s s′ : Session) → s ≡ opened → s′ ≡ opened → s ≡ s′
+open-unique s s′ e e′ = e ∙ sym e′
 
 wrote-len : (es : List Event) (before x y : List ℕ) (m n : ℕ) → Wrote es before x m → Wrote es before y n → m ≡ n
 wrote-len es before x y m n v w =

@@ -6,11 +6,11 @@ use lib.IntN.{ℤ}
 use lib.ListN.{length, take, drop}
 use Rattle.frames.specs.Frames.{Event}
 use Rattle.terminal.specs.Terminal.{LineOf}
-use Rattle.terminal.specs.Longest.{longest-line}
+use Rattle.limits.specs.Limits.{longest-line}
 
 -- room for the line of a pair with this first drawing, from `at` on
-abbrev pub Roomy : List ℤ → List ℕ → ℕ → Type 0
-Roomy a out at = at + min longest-line (10 + 6 * length a) ≤ length out
+abbrev pub Space : List ℤ → List ℕ → ℕ → Type 0
+Space a out at = at + min longest-line (10 + 6 * length a) ≤ length out
 
 -- the line of an event stands from `at` on, and r is the place after it
 pub record Laid (e : Event) (out : List ℕ) (at r : ℕ) (out′ : List ℕ) : Type 0 where

@@ -4,10 +4,10 @@ use mathlib.Core.List.{List}
 use Prim.Native.Nat.{ℕ, _+_, _≤_}
 use lib.IntN.{ℤ}
 use lib.ListN.{length, take, drop}
-use Rattle.frames.specs.Frames.{Event, fault-line, most-numbers}
+use Rattle.frames.specs.Frames.{Event, fault-line}
 use Rattle.frames.specs.Reader.{fresh}
 use Rattle.terminal.specs.Terminal.{Lines}
-use Rattle.terminal.specs.Longest.{longest-line}
+use Rattle.limits.specs.Limits.{most-numbers, longest-line}
 use Rattle.terminal.specs.Going.{goes, at-end}
 use Rattle.terminal.specs.declared.Session.{Session}
 use Rattle.terminal.specs.declared.Session.the-variants as session

@@ -6,27 +6,26 @@ use Prim.Native.Nat.{ℕ, zero, suc}
 use lib.IntN.{ℤ}
 use lib.ListN.{length, take}
 use Rattle.frames.specs.Frames.{Event, pair, fault, events, answer-line, refusal-line, fault-line}
+use Rattle.limits.specs.Limits.{room}
+use Rattle.rules.specs.Result.{Result}
 use Rattle.desk.specs.Answer.{Answers}
-
--- "It gives each pair a room of 310 bytes"
-abbrev pub room : ℕ
-room = 310
 
 -- "A0, the count of pieces in one byte and the answer bytes; or E0 and the refusal number in one byte": the line for 01's number
 abbrev pub reply : ℕ → ℕ → List ℕ → List ℕ
 reply zero pieces answer = answer-line pieces answer
 reply (suc k) pieces answer = refusal-line (suc k)
 
--- the line for the pair a, b, by what comes back for it in such a room
+-- the line for what comes back
+abbrev pub line-for : Result → List ℕ
+line-for r = reply (r .number) (r .count) (take (r .bytes) (r .after))
+
+-- the line for the pair a, b: "It gives each pair a room of 310 bytes"
 pub record Answered (a b : List ℤ) (line : List ℕ) : Type 0 where
   pub before : List ℕ
-  pub after : List ℕ
-  pub number : ℕ
-  pub pieces : ℕ
-  pub bytes : ℕ
+  pub result : Result
   pub roomy : length before ≡ room
-  pub answers : Answers a b before after number pieces bytes
-  pub replied : line ≡ reply number pieces (take bytes after)
+  pub answers : Answers a b before result
+  pub replied : line ≡ line-for result
 
 -- "For each pair it writes one line"; a fault "gives the line EF"
 abbrev pub LineOf : Event → List ℕ → Type 0

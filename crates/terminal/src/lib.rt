@@ -7,13 +7,14 @@ mod chunk;
 mod reply;
 
 use chunk::read;
-use frames::MOST_NUMBERS;
-
-// What a chunk can write beyond its own length: a longest line of 625 bytes, whose pair may have been read before, and EF.
-pub const MOST_BEYOND: usize = 628;
+use limits::LONGEST_LINE;
+use limits::MOST_NUMBERS;
 
 // What the end of an input can write: EF.
 pub const MOST_AT_END: usize = 3;
+
+// What a chunk can write beyond its own length: a longest line, whose pair may have been read before, and EF.
+pub const MOST_BEYOND: usize = LONGEST_LINE + MOST_AT_END;
 
 // A run between two chunks.
 pub enum Session {
@@ -38,7 +39,7 @@ pub fn open() -> Session
 }
 
 // Takes the whole of a chunk and writes the lines of the pairs that it ends, and EF where there is a fault. `first` and `second` have
-// `frames::MOST_NUMBERS` numbers at least, and `out` has `MOST_BEYOND` bytes more than the chunk.
+// `limits::MOST_NUMBERS` numbers at least, and `out` has `MOST_BEYOND` bytes more than the chunk.
 pub fn run(
     session: Session,
     chunk: &[u8],

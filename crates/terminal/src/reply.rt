@@ -1,13 +1,11 @@
 // The line of a pair.
 ghost use Rattle.frames.specs.Frames.{pair};
-ghost use Rattle.terminal.specs.Laying.{Roomy, Laid};
-
-// 01's room for each pair.
-const ROOM: usize = 310;
+ghost use Rattle.terminal.specs.Laying.{Space, Laid};
+use limits::ROOM;
 
 // Lays the line of a pair into `out` from `at` on, and returns the place after it.
 pub fn reply(first: &[i32], second: &[i32], out: &mut [u8], at: usize) -> usize
-    requires { ⌜ Roomy (now first) (now out) at ⌝ }
+    requires { ⌜ Space (now first) (now out) at ⌝ }
     ensures { λ r. ⌜ Laid (pair (now (first .entry)) (now (second .entry))) (now (out .entry)) at r (now (out .exit)) ⌝ }
 {
     let mut room = [0u8; ROOM];

@@ -84,7 +84,7 @@ fn tables(libraries: &Libraries) -> Vec<Two> {
 
 /// The peer, and the checkouts' programs where they run without an emulator, on the big frames.
 fn print_rates(turns: usize, folders: &[PathBuf]) -> Result<(), String> {
-    let input = include_bytes!("../../data/big.hex").repeat(BIG_TIMES);
+    let input = include_bytes!("../../../crates/test_wire/data/big.hex").repeat(BIG_TIMES);
     let mut names = vec!["the peer".to_string()];
     let mut runs: Vec<Run> = vec![Box::new(frames::run)];
     for folder in folders.iter().filter(|_| cfg!(target_arch = "x86_64")) {
@@ -94,7 +94,7 @@ fn print_rates(turns: usize, folders: &[PathBuf]) -> Result<(), String> {
         runs.push(Box::new(move |input| program.run(input, input.len()).output));
     }
     println!(
-        "Pairs a second on data/big.hex {BIG_TIMES} times over, reading and writing frames:\n"
+        "Pairs a second on the recorded frames big.hex, {BIG_TIMES} times over, reading and writing frames:\n"
     );
     for (name, rate) in names.iter().zip(rates(turns, &runs, &input)) {
         let rate = rate.ok_or_else(|| format!("{name}: it does not answer every pair"))?;

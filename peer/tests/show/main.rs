@@ -1,7 +1,11 @@
 //! The page that shows drawings and answers (src/show).
 
+mod answers;
 mod hostile;
 mod outlines;
+// Pages are drawn of the frames only.
+#[allow(dead_code)]
+#[path = "../recorded/mod.rs"]
 mod recorded;
 mod repository;
 mod sheet;

@@ -1,63 +1,56 @@
 -- `desk::answer` meets its contract: a law for each line of 01's table.
-use Prim.Native.Nat.{_+_, _*_, _≤_}
 use native.Mathlib.Omega.{arith}
 use lib.ListN.{length}
 use borrow.Author.Needs.{needs}
-use borrow.Author.Tests.{not-true, not-false}
+use Rattle.limits.specs.Limits.{Roomy}
 use Rattle.drawing.specs.Drawing.{corners}
-use Rattle.drawing.specs.Tells.{if-yes, if-no}
-use Rattle.desk.specs.Answer.{Alike}
-use Rattle.desk.proofs.Laws.{first-line, room-line, drawing-lines}
+use Rattle.pair.specs.Pair.{Alike}
+use Rattle.desk.proofs.Laws.{line-1, alike, line-2, lines-3-to-8, ready}
 use Rattle.desk.proofs.answer.Statement.{statement}
 use Rattle.desk.proofs.answer.Tie as tie
 
-alike-requires : tie.Need-alike-requires
-alike-requires c κs = search needs
+check-requires : tie.Need-check-requires
+check-requires c κs = search needs
 
 refused-requires : tie.Need-refused-requires
 refused-requires c κs = search needs
 
 returns : tie.Need-returns
-returns c =
-    let made = c .refused .ensures in
-    first-line _ _ _ _ (made .1) (made .2) (if-no (c .before .before .alike .ensures) (not-true _ (c .before .if1 .taken))) (made .0)
-
-alike : (c : tie.Else1) → Alike (c .before .before .before .args .first .now) (c .before .before .before .args .second .now)
-alike c = if-yes (c .before .alike .ensures) (not-false _ (c .if1 .left))
+returns c = line-1 _ (c .before .before .check .ensures) _ (c .refused .ensures) (c .before .if1 .taken)
 
 mul-if2 : tie.Need-mul-if2
 mul-if2 c = search needs
 
+both : (c : tie.Else1) → Alike (c .before .before .before .args .first .now) (c .before .before .before .args .second .now)
+both c = alike (c .before .before .before .args .room .now) (c .before .check .ensures) (c .if1 .left)
+
 sub-if2 : tie.Need-sub-if2
-sub-if2 c = omega (arith, alike c .enough)
+sub-if2 c = omega (arith, both c .enough)
 
 refused-requires-2 : tie.Need-refused-requires-2
 refused-requires-2 c κs = search needs
 
 returns-2 : tie.Need-returns-2
 returns-2 c =
-    let made = c .refused2 .ensures in
-    room-line _ _ _ _ (made .1) (made .2) (alike (c .before .before)) (omega (arith, c .before .if2 .taken)) (made .0)
+    let else1 = c .before .before in
+    line-2 _ (else1 .before .check .ensures) (else1 .if1 .left) _ (c .refused2 .ensures) (omega (arith, c .before .if2 .taken))
 
-roomy : (c : tie.Else2) → 5 * corners (c .before .before .before .before .args .first .now) ≤ length (c .before .before .before .before .args .room .now) + 10
+roomy : (c : tie.Else2) → Roomy (corners (c .before .before .before .before .args .first .now)) (length (c .before .before .before .before .args .room .now))
 roomy c = omega (arith, c .if2 .left)
-
-judged-requires : tie.Need-judged-requires
-judged-requires c κs = alike (c .before)
 
 refused-requires-3 : tie.Need-refused-requires-3
 refused-requires-3 c κs = search needs
 
 returns-3 : tie.Need-returns-3
 returns-3 c =
-    let made = c .refused3 .ensures in
-    drawing-lines _ _ _ _ (made .1) (made .2) _
-    (alike (c .before .before .before .before)) (roomy (c .before .before .before)) (c .before .before .judged .ensures) (c .before .if3 .taken) (made .0)
+    let else2 = c .before .before in
+    let else1 = else2 .before in
+    lines-3-to-8 _ (else1 .before .check .ensures) (else1 .if1 .left) _ (c .refused3 .ensures) (c .before .if3 .taken) (roomy else2)
 
-cut-requires : tie.Need-cut-requires
-cut-requires c κs =
-    let sound = c .before .before .judged .ensures .sound (c .before .if3 .left) in
-    record { alike = alike (c .before .before .before .before); roomy = roomy (c .before .before .before); first-sound = sound .0; second-sound = sound .1 }
+sound-requires : tie.Need-sound-requires
+sound-requires c κs =
+    let else2 = c .before .before in
+    ready (else2 .before .before .before .before .args .room .now) (else2 .before .before .check .ensures) (c .before .if3 .left) (roomy else2)
 
 same-length : tie.Need-same-length
 same-length c = search needs
@@ -69,16 +62,15 @@ pub answer-spec : {M : Type 1} → statement M
 answer-spec =
     tie.close
     (tie.spec
-    alike-requires
+    check-requires
     refused-requires
     returns
     mul-if2
     sub-if2
     refused-requires-2
     returns-2
-    judged-requires
     refused-requires-3
     returns-3
-    cut-requires
+    sound-requires
     same-length
     returns-4)

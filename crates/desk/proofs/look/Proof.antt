@@ -1,7 +1,6 @@
--- `desk::look` meets its contract: the cells are the two drawings' sight, and the engine serves them.
+-- `desk::look` meets its contract: the cells are the two drawings' sight, and what comes back by them is the answer.
 use native.Mathlib.Omega.{arith}
 use borrow.Author.Needs.{needs}
-use denote.Ref.{now}
 use Rattle.desk.proofs.Laws.{sighted, looked}
 use Rattle.desk.proofs.look.Statement.{statement}
 use Rattle.desk.proofs.look.Tie as tie
@@ -26,16 +25,15 @@ same-length-3 c = search needs
 
 returns : tie.Need-returns
 returns c =
-    let after2 = c .before .before .before .before .before .before .before .before in
-    let after1 = after2 .before .before .before .before in
-    let start = after1 .before .before .before .before .before in
+    let second = c .before .before .before .before .before .before .before .before in
+    let first = second .before .before .before .before in
+    let start = first .before .before .before .before .before in
     let ready = start .pre .0 in
     let sized = start .pre .1 in
-    let seen1 = sighted (ready .first-sound) (sized .0) (after1 .sight .ensures) in
-    let seen2 = sighted (ready .second-sound) (sized .1) (after2 .sight2 .ensures) in
-    let cut = c .before .before .cut in
-    looked (ready .alike) _ _ _ _ seen1 seen2 (now (start .args .room)) (cut .last .1 .1 .1 .0) (cut .result) ready
-    (omega (arith, seen1 .size, sized .0)) (omega (arith, seen2 .size, sized .1)) (cut .ensures)
+    let seen1 = sighted (ready .sound .first-sound) (sized .0) (first .sight .ensures) in
+    let seen2 = sighted (ready .sound .second-sound) (sized .1) (second .sight2 .ensures) in
+    looked (ready .sound) _ _ _ _ seen1 seen2 _ _ (ready .roomy)
+    (omega (arith, seen1 .size, sized .0)) (omega (arith, seen2 .size, sized .1)) (c .before .before .cut .ensures)
 
 pub look-spec : {M : Type 1} → statement M
 look-spec =

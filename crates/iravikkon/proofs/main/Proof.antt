@@ -2,7 +2,7 @@
 use borrow.Author.Needs.{needs}
 use mathlib.Core.Path.{_≡_}
 use lib.ListN.{length}
-use Rattle.frames.specs.Frames.{most-numbers}
+use Rattle.limits.specs.Limits.{most-numbers}
 use Rattle.iravikkon.proofs.main.Statement.{statement}
 use Rattle.iravikkon.proofs.main.Tie as tie
 

@@ -3,8 +3,8 @@ use mathlib.Core.Path.{_≡_}
 use Prim.Native.Nat.{_≤_, _-_}
 use native.Mathlib.Omega.{arith}
 use lib.ListN.{length}
+use Rattle.limits.specs.Limits.{all-cells}
 use Rattle.drawing.specs.Drawing.{corners}
-use Rattle.drawing.specs.Sight.{all-cells}
 use Rattle.drawing.specs.Parts.{RowFilled}
 use Rattle.drawing.proofs.Cells.{row-none, row-more}
 use Rattle.drawing.proofs.table.row.Statement.{statement}

@@ -17,18 +17,17 @@ mul-empty c = search needs
 returns-2 : tie.Need-returns-2
 returns-2 c = begins-below _ _ _ (c .before .if1 .left) (c .if2 .taken)
 
+cast-n : tie.Need-cast-n
+cast-n c = search needs
+
 returns-3 : tie.Need-returns-3
 returns-3 c = begins-many _ _ _ (c .before .before .if1 .left) (c .before .if2 .left) (omega arith)
 
-cast-t10 : tie.Need-cast-t10
-cast-t10 c = search needs
-
-mul-t11 : tie.Need-mul-t11
-mul-t11 c = search needs
+mul-t10 : tie.Need-mul-t10
+mul-t10 c = search needs
 
 returns-4 : tie.Need-returns-4
 returns-4 c = begins-body _ _ _ (c .before .before .if1 .left) (c .before .if2 .left) (omega arith)
 
 pub begin-spec : {M : Type 1} → statement M
-begin-spec =
-    tie.close (tie.spec add-t7 returns mul-empty returns-2 returns-3 cast-t10 mul-t11 returns-4)
+begin-spec = tie.close (tie.spec add-t7 returns mul-empty returns-2 cast-n returns-3 mul-t10 returns-4)

@@ -4,7 +4,7 @@ use Prim.Native.Nat.{ℕ}
 use native.Mathlib.Omega.{arith}
 use lib.ListN.{length, replicate, length-replicate}
 use lib.Seq.{length-take-le}
-use Rattle.terminal.specs.Terminal.{room}
+use Rattle.limits.specs.Limits.{room}
 use Rattle.terminal.specs.Longest.{small}
 use Rattle.terminal.proofs.Laying.{laid-refusal, laid-answer}
 use borrow.Author.Needs.{needs}

@@ -1,0 +1,14 @@
+-- `sight::shade`: one pair for each return.
+use Rattle.cutting.proofs.Values.{never}
+use mathlib.Core.Path.{refl, sym, _∙_}
+use Rattle.cutting.proofs.sight.shade.Statement.{statement}
+use Rattle.cutting.proofs.sight.shade.Tie as tie
+
+returns : tie.Need-returns
+returns c = (λ e. refl, λ e. never (sym ((c .if1) .taken) ∙ e))
+
+returns-2 : tie.Need-returns-2
+returns-2 c = (λ e. never (sym e ∙ (c .if1) .left), λ e. refl)
+
+pub shade-spec : {M : Type 1} → statement M
+shade-spec = tie.close (tie.spec returns returns-2)

@@ -1,0 +1,50 @@
+-- What 01's table asks of a pair of drawings: document 01, "What comes back", lines 1 and 3 to 8. To be believed, with a sound drawing as
+-- `drawing` has it and the number of the first line that fails as `rules` has it.
+use mathlib.Core.Path.{_≡_}
+use mathlib.Core.List.{List, [], _∷_, _++_}
+use Prim.Native.Nat.{ℕ, _*_, _≤_}
+use lib.IntN.{ℤ, pos}
+use lib.ListN.{length}
+use lib.Signed.{_<ℤ_}
+use Rattle.limits.specs.Limits.{fewest-corners, most-corners}
+use Rattle.drawing.specs.Drawing.{corners, InRange, Simple, doubled-area}
+use Rattle.drawing.specs.Judgement.{first-number, second-number}
+use Rattle.drawing.specs.declared.Judged.{Judged}
+use Rattle.rules.specs.Refusals.{Line, line, FirstFailed, failed-unique}
+use Rattle.pair.specs.declared.Which.{Which}
+use Rattle.pair.specs.declared.Which.the-variants.{First, Second}
+
+-- line 1 is given where "a list has odd length, the lengths differ, or n is below 3 or above 64": what it asks
+pub record Alike (first second : List ℤ) : Type 0 where
+  pub even : length first ≡ 2 * corners first
+  pub same : length second ≡ length first
+  pub enough : fewest-corners ≤ corners first
+  pub few : corners first ≤ most-corners
+
+-- number 5 or 8 is given where the "doubled area [is] not above zero"
+abbrev pub Anticlockwise : List ℤ → Type 0
+Anticlockwise d = pos 0 <ℤ doubled-area d
+
+-- "tried in this order: a coordinate out of range; not simple; doubled area not above zero"
+abbrev pub of-drawing : ℕ → ℕ → ℕ → List ℤ → List Line
+of-drawing a b c d = line a (InRange d) ∷ line b (Simple d) ∷ line c (Anticlockwise d) ∷ []
+
+-- "3, 4, 5 | the first drawing" and "6, 7, 8 | the same for the second drawing"
+abbrev pub of-drawings : List ℤ → List ℤ → List Line
+of-drawings first second = of-drawing 3 4 5 first ++ of-drawing 6 7 8 second
+
+abbrev pub lines : List ℤ → List ℤ → List Line
+lines first second = line 1 (Alike first second) ∷ of-drawings first second
+
+-- 01's number for a judgement, by the drawing that was judged
+abbrev pub number-of : Which → Judged → ℕ
+number-of First = first-number
+number-of Second = second-number
+
+-- ---- what `check` promises: the number of the first of these lines that fails, or 0
+pub record Checks (first second : List ℤ) (number : ℕ) : Type 0 where
+  pub numbered : FirstFailed (lines first second) number
+
+-- no second number
+pub check-unique : (first second : List ℤ) (k k′ : ℕ) → Checks first second k → Checks first second k′ → k ≡ k′
+check-unique first second k k′ h h′ = failed-unique (lines first second) k k′ (h .numbered) (h′ .numbered)

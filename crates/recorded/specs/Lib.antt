@@ -1,0 +1,5 @@
+-- ---- to be believed: the words and numbers of a text, and what a buffer holds
+pub mod Decimals
+pub mod Lent
+-- ---- digits as they are read
+pub mod Digits

@@ -1,0 +1,3 @@
+// What the test programs share: reading recorded answers, and the buffers that a call is lent and must leave.
+pub mod decimals;
+pub mod lent;

@@ -1,0 +1,60 @@
+-- `call::holds` meets its contract.
+use Prim.Native.Nat.{_-_}
+use native.Mathlib.Omega.{arith}
+use borrow.Author.Needs.{needs}
+use lib.ListN.{length-take}
+use Rattle.test_sights.proofs.call.holds.Statement.{statement}
+use Rattle.test_sights.proofs.call.holds.Tie as tie
+
+fill-requires : tie.Need-fill-requires
+fill-requires c κs = tt
+
+judged-requires : tie.Need-judged-requires
+judged-requires c κs = tt
+
+slice-relend-prefix-seen : tie.Need-slice-relend-prefix-seen
+slice-relend-prefix-seen c = search needs
+
+slice-aggregate-seen : tie.Need-slice-aggregate-seen
+slice-aggregate-seen c = simp length-take (omega arith)
+
+seen-requires : tie.Need-seen-requires
+seen-requires c κs = tt
+
+agree-requires : tie.Need-agree-requires
+agree-requires c κs = tt
+
+same-length : tie.Need-same-length
+same-length c = search needs
+
+returns : tie.Need-returns
+returns c = tt
+
+write-all-requires : tie.Need-write-all-requires
+write-all-requires c κs = tt
+
+report-requires : tie.Need-report-requires
+report-requires c κs = tt
+
+same-length-2 : tie.Need-same-length-2
+same-length-2 c = search needs
+
+returns-2 : tie.Need-returns-2
+returns-2 c = tt
+
+pub holds-spec : {M : Type 1} → statement M
+holds-spec =
+    tie.close
+    (tie.spec
+    fill-requires
+    judged-requires
+    slice-relend-prefix-seen
+    slice-aggregate-seen
+    seen-requires
+    agree-requires
+    same-length
+    returns
+    write-all-requires
+    report-requires
+    same-length-2
+    returns-2)
