@@ -2,3 +2,5 @@
 mod Machine
 -- the table of sight as it fills
 mod Cells
+-- the words of what the corners know, as they are written
+mod Words

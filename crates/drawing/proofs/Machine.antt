@@ -1,15 +1,20 @@
 -- Signed numbers of the machine: what a comparison of two of them tells, and that the products of coordinates' differences fit.
-use mathlib.Core.Path.{_≡_, refl, sym, ap, _∙_}
+use mathlib.Core.Path.{_≡_, refl, sym, ap, _∙_, subst}
+use mathlib.Core.Bool.{Bool, true, false}
 use Prim.Native.Nat.{ℕ, _^_, _≤_, _<_}
+use native.Mathlib.Omega.{arith}
 use lib.IntN.{ℤ, natAbs, _-ℤ_, _*ℤ_}
 use lib.Signed.{mag, leZ, ltZ, _≤ℤ_, _<ℤ_}
 use mir.Syntax.{w64}
-use mir.Val.{toZ, ofZ}
+use mir.Val.{toZ, ofZ, boolByte}
 use mir.Facts.{toZ-ofZ}
 use borrow.Author.Needs.{sfits-of}
+use Rattle.whole.specs.Masks.{Digit}
 use Rattle.whole.specs.Bounds.{Val, fit, par, loc, less, times}
 use Rattle.limits.specs.Limits.{furthest}
-use Rattle.drawing.specs.Drawing.{Point}
+use Rattle.drawing.specs.Drawing.{Point, Turn}
+use Rattle.drawing.specs.Segments.{Dot}
+use Rattle.drawing.specs.Quick.{Touch}
 use Rattle.drawing.specs.Tells.{Tells}
 use Rattle.drawing.specs.Parts.{Close}
 
@@ -48,3 +53,23 @@ module _ {p : Point} (h : Close p) where
 pub product : {z x u y s a t b : ℤ} → Val z x furthest → Val u y furthest → Val s a furthest → Val t b furthest →
     Val (back (z -ℤ u) *ℤ back (s -ℤ t)) ((x -ℤ y) *ℤ (a -ℤ b)) 4000000000000
 product h k m n = times (loc w64 tt (less h k)) (loc w64 tt (less m n))
+
+-- ---- of points that are known
+module _ {a b c p q r : Point} (e : a ≡ p) (f : b ≡ q) (g : c ≡ r) where
+  pub turn-same : Turn a b c ≡ Turn p q r
+  turn-same = λ i. Turn (e i) (f i) (g i)
+
+  pub dot-same : Dot a b c ≡ Dot p q r
+  dot-same = λ i. Dot (e i) (f i) (g i)
+
+pub touch-as : {a b c d p q r s : Point} → a ≡ p → b ≡ q → c ≡ r → d ≡ s → Touch a b c d → Touch p q r s
+touch-as e f g h t = subst (λ x. x) (λ i. Touch (e i) (f i) (g i) (h i)) t
+
+-- ---- a test as a digit of a mask
+pub digit-small : (b : Bool) → boolByte b < 2
+digit-small true = omega arith
+digit-small false = omega arith
+
+pub digit : {b : Bool} {P : Type 0} → Tells b P → Digit (boolByte b) P
+digit {b = true} t = record { small = digit-small true; one = λ e. t .sure tt; nought = λ e. absurd (omega arith) }
+digit {b = false} t = record { small = digit-small false; one = λ e. absurd (omega arith); nought = λ e p. t .told p }

@@ -4,15 +4,21 @@ pub mod Judgement
 pub mod Sight
 -- ---- what the private functions promise
 pub mod Parts
--- ---- laws: truth values that tell, segments, the corners' numbers, the sides of a simple drawing, sight
+pub mod Known
+-- ---- laws: truth values that tell, segments, a point against a segment, the corners' numbers, the sides of a simple drawing,
+-- sight, how a line of sight meets a side, sight from the open sides, and what the digits of masks tell
 pub mod Tells
 mod Spell
 pub mod Segments
 pub mod Quick
 pub mod Ends
+pub mod Against
 pub mod Round
 pub mod Sides
 pub mod Seeing
+pub mod Meeting
+pub mod Looking
+pub mod Digits
 -- ---- the two answers, and that no second one keeps the promise
 pub mod Judging
 pub mod Seen

@@ -4,6 +4,7 @@ ghost use Rattle.drawing.specs.Judgement.{Judgement};
 ghost use Rattle.drawing.specs.Sight.{Sight};
 
 mod corners;
+mod masks;
 mod seeing;
 mod segment;
 mod simple;

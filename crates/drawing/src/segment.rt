@@ -20,7 +20,7 @@ pub fn turn(a: Place, b: Place, c: Place) -> i64
 }
 
 // (u - z) . (w - z): of three points on one line, not above zero where z lies between u and w.
-fn dot(z: Place, u: Place, w: Place) -> i64
+pub fn dot(z: Place, u: Place, w: Place) -> i64
     requires { ⌜ Close (point z) × Close (point u) × Close (point w) ⌝ }
     ensures { λ r. ⌜ r ≡ Dot (point z) (point u) (point w) ⌝ }
 {
@@ -34,21 +34,22 @@ pub fn same(a: Place, b: Place) -> bool
     if a.x == b.x { a.y == b.y } else { false }
 }
 
-// Two turns of one line: both strictly left of it, or both strictly right.
+// Two turns of one line: both strictly left of it, or both strictly right. No branch asks for the sign of one of
+// them, which nothing foretells.
 pub fn one_side(s: i64, t: i64) -> bool
     ensures { λ r. ⌜ Tells r (OneSide s t) ⌝ }
 {
-    if s > 0 {
-        t > 0
-    } else if s < 0 {
-        t < 0
-    } else {
-        false
+    if s == 0 {
+        return false;
     }
+    if t == 0 {
+        return false;
+    }
+    (s > 0) == (t > 0)
 }
 
 // Of four points on one line, an end of one segment lies on the other.
-fn touch(a: Place, b: Place, c: Place, d: Place) -> bool
+pub fn touch(a: Place, b: Place, c: Place, d: Place) -> bool
     requires { ⌜ Close (point a) × Close (point b) × Close (point c) × Close (point d) ⌝ }
     ensures { λ r. ⌜ Tells r (Touch (point a) (point b) (point c) (point d)) ⌝ }
 {

@@ -1,4 +1,4 @@
--- Whole numbers (the kit's ℤ): what the proofs about coordinates need and the kit does not have.
+-- Whole numbers (the kit's ℤ), and words of digits: what the proofs about coordinates need and the kit does not have.
 
 -- associativity and distributivity of the product, the product of a negation, induction by steps of one
 pub mod Laws
@@ -12,3 +12,7 @@ pub mod Ring
 pub mod Order
 -- a machine value is the number meant and fits its width; what a comparison of two of them tells
 pub mod Bounds
+-- the binary digits of a word: `&`, `|`, `>>`, the lowest 1
+pub mod Bits
+-- masks, whose digits tell of a statement about the numbers below n: made, and read
+pub mod Masks

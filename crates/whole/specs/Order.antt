@@ -125,6 +125,9 @@ sign (pos zero) = nought refl
 sign (pos (suc n)) = plus (positive-pos n)
 sign (negsuc n) = minus (positive-pos n)
 
+pub below : {z : ℤ} → Positive (negℤ z) → z <ℤ pos 0
+below {z} h = sub-lt (by-ring (z ∷ []) Positive (neg (v 0)) (con (pos 0) :- v 0) refl h)
+
 -- not both z > 0 and -z ≥ 0
 pub positive-not : {X : Type 0} {z : ℤ} → Positive z → Nonneg (negℤ z) → X
 positive-not {z} h k = absurd (<ℤ-irrefl (by-ring (z ∷ []) Positive (v 0 :+ neg (v 0)) (con (pos 0)) refl (positive-add h k)))
