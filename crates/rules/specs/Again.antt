@@ -50,8 +50,7 @@ module _ {top : ℕ} {veil val col col′ : ℕ → ℕ → ℕ} {m j lo lo′ x
   pub lane-unique : (a : ℕ) → lo ≤ a → lo′ ≤ a → a ≤ j → col′ a x ≡ col a x
   lane-unique a la la′ aj = unique j a la la′ aj (omega arith)
 
--- ---- tables that agree on what is read of the centres that fit, from lo on: the way to the centre, and the way from
--- it on
+-- ---- tables that agree where a centre that fits is read, from lo on: the way to it, and the way on from it
 pub record Agree (fit : ℕ → Type 0) (left col left′ col′ : ℕ → ℕ → ℕ) (lo j : ℕ) : Type 0 where
   pub lefts : (b x : ℕ) → lo ≤ b → b ≤ x → x ≤ j → left′ b x ≡ left b x
   pub cols : (b x : ℕ) → fit x → lo ≤ x → x ≤ b → b ≤ j → col′ b x ≡ col b x

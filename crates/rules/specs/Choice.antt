@@ -33,8 +33,7 @@ less (a ∷ s) (b ∷ t) = ltb a b || (eqb a b && less s t)
 unfoldable pub stepOf : ℕ → (ℕ → ℕ → ℕ) → (ℕ → ℕ → ℕ) → ℕ → ℕ → ℕ → ℕ
 stepOf top val side x t c = sought (costs top val side x c) (side c x) (suc c) (t - suc c)
 
--- whether the centre x makes a piece on the line i j that is as cheap as the line's value says: a road to x, and then a
--- road on from x
+-- whether the centre x makes a piece on the line i j as cheap as the line's value says: a road to x, then one from x
 unfoldable pub fits : ℕ → (ℕ → ℕ → ℕ) → (ℕ → ℕ → ℕ) → (ℕ → ℕ → ℕ) → (ℕ → ℕ) → ℕ → ℕ → ℕ → Bool
 fits top w val left right i j x = eqb (min top (min top (left i x + right x) + w i j)) (val i j)
 

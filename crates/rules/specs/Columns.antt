@@ -29,8 +29,7 @@ pays val side x c b = val c b + side b x
 abbrev pub costs : ℕ → (ℕ → ℕ → ℕ) → (ℕ → ℕ → ℕ) → ℕ → ℕ → ℕ → ℕ
 costs top val side x c b = min top (pays val side x c b)
 
--- a column from the corner lo on: for each corner and each of n centres the least cost of a road to j, by its first
--- step
+-- a column from the corner lo on: of each corner and each of n centres the cheapest road to j, by its first step
 pub record Column (top : ℕ) (veil val : ℕ → ℕ → ℕ) (n j lo : ℕ) (col : ℕ → ℕ → ℕ) : Type 0 where
   pub start : (x : ℕ) → x < n → col j x ≡ veil j x
   pub seen : (a x : ℕ) → lo ≤ a → a < j → x < n → veil a x ≡ 0 → Least top (pays val col x a) a (suc j) (col a x)
@@ -42,8 +41,7 @@ pub record Lane (top : ℕ) (veil val : ℕ → ℕ → ℕ) (x j lo : ℕ) (col
   pub seen : (a : ℕ) → lo ≤ a → a < j → veil a x ≡ 0 → Least top (pays val col x a) a (suc j) (col a x)
   pub unseen : (a : ℕ) → lo ≤ a → a < j → ¬ (veil a x ≡ 0) → col a x ≡ top
 
--- v is the least over the centres of what a piece on the line i j costs: low for the centre i, high for j, mid for
--- those between
+-- v is the least that a piece on the line i j costs, over its centres: low for i, high for j, mid for those between
 pub record Best (top : ℕ) (w veil val col : ℕ → ℕ → ℕ) (through : ℕ → ℕ) (i j v : ℕ) : Type 0 where
   pub low : ℕ
   pub mid : ℕ
@@ -67,9 +65,8 @@ pub record Columned (top : ℕ) (w : ℕ → ℕ → ℕ) (cut : ℕ → ℕ →
   pub value : (i : ℕ) → lo ≤ i → i < j → Valued top w cut veil val col (λ x. left i x + col x x) n i j (val i j)
   pub lefts : (i : ℕ) → lo ≤ i → i ≤ j → left i j ≡ col i j
 
--- What is asked of the weights. Each piece weighs something, so that the direct line is never taken for a piece. And no
--- sum reaches top: a piece weighs at most `heaviest`, and the corners lie that far apart on a scale that ends below
--- top.
+-- What is asked of the weights. Each piece weighs something, so that the direct line is never taken for one. No sum
+-- reaches top: a piece weighs at most `heaviest`, and the corners lie that far apart on a scale that ends below top.
 pub record Light (top n : ℕ) (w : ℕ → ℕ → ℕ) : Type 0 where
   pub heaviest : ℕ
   pub scale : ℕ → ℕ

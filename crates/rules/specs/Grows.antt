@@ -1,5 +1,4 @@
--- Columns as they grow: cells that are the same where they are read leave a column as it is, and one line more makes it
--- longer.
+-- Columns as they grow: cells that are the same where they are read leave a column alone; one line more lengthens it.
 use mathlib.Core.Path.{_≡_, refl, sym, ap₂, subst, _∙_}
 use Prim.Native.Nat.{ℕ, suc, _+_, _<_, _≤_}
 use native.Mathlib.Omega.{arith}

@@ -1,6 +1,5 @@
 -- The cutting of a table, traced from the whole range down: a set of pairs that has the whole range, and with each of
--- its pairs the lines of the piece that is chosen there, and no other. It does not matter in which order it was
--- gathered.
+-- its pairs the lines of the piece that is chosen there, and no other. The order of gathering does not matter.
 use mathlib.Core.Path.{_≡_}
 use mathlib.Core.Logic.{_⊎_, inl, inr}
 use mathlib.Core.List.{List, [], _∷_}

@@ -1,9 +1,9 @@
 -- `frame`: the new tables are large enough.
-use Rattle.cutting.proofs.Readings.{veil-new}
-use Rattle.limits.specs.Limits.{all-cells}
 use Prim.Native.Nat.{ℕ}
 use lib.ListN.{length-replicate}
 use borrow.Author.Needs.{needs}
+use Rattle.limits.specs.Limits.{all-cells}
+use Rattle.cutting.proofs.Readings.{veil-new}
 use Rattle.cutting.proofs.frame.Statement.{statement}
 use Rattle.cutting.proofs.frame.Tie as tie
 

@@ -1,9 +1,9 @@
 -- `search`: what is not served, and the first part of the array.
-use Rattle.cutting.specs.Answer.{Served}
-use Rattle.cutting.proofs.Answers.{searches-not, part-size, served-part, searches-part}
 use mathlib.Core.Path.{sym, _∙_}
 use native.Mathlib.Omega.{arith}
 use borrow.Author.Needs.{needs}
+use Rattle.cutting.specs.Answer.{Served}
+use Rattle.cutting.proofs.Answers.{searches-not, part-size, served-part, searches-part}
 use Rattle.cutting.proofs.search.Statement.{statement}
 use Rattle.cutting.proofs.search.Tie as tie
 

@@ -1,8 +1,8 @@
 -- `work`: the readings, the tables, the set.
-use Rattle.cutting.proofs.Answers.{finished, searches-none, searches-found}
 use mathlib.Core.Path.{sym, _∙_}
 use native.Mathlib.Omega.{arith}
 use borrow.Author.Needs.{needs}
+use Rattle.cutting.proofs.Answers.{finished, searches-none, searches-found}
 use Rattle.cutting.proofs.work.Statement.{statement}
 use Rattle.cutting.proofs.work.Tie as tie
 

@@ -1,12 +1,12 @@
 -- `again::lane`: the lane is right from b on.
-use Rattle.cutting.proofs.Rows.{blank}
-use Rattle.cutting.proofs.Relaid.{Laning, laning-none, laning-more, laning-at, laning-end}
-use Rattle.limits.specs.Limits.{row, all-cells}
 use mathlib.Core.Path.{_≡_, refl}
 use Prim.Native.Nat.{_≤_}
 use lib.ListN.{length, length-set}
-use borrow.Author.Needs.{needs}
 use native.Mathlib.Omega.{arith}
+use borrow.Author.Needs.{needs}
+use Rattle.limits.specs.Limits.{row, all-cells}
+use Rattle.cutting.proofs.Rows.{blank}
+use Rattle.cutting.proofs.Relaid.{Laning, laning-none, laning-more, laning-at, laning-end}
 use Rattle.cutting.proofs.again.lane.Statement.{statement}
 use Rattle.cutting.proofs.again.lane.Tie as tie
 

@@ -1,9 +1,9 @@
 -- `again::reach`: the least of the steps to corners below c.
-use borrow.Author.Needs.{needs}
-use native.Mathlib.Omega.{arith}
-use Rattle.cutting.proofs.Relaid.{Reaching, reaching-none, reaching-more, reaching-end}
-use Rattle.limits.specs.Limits.{row}
 use Prim.Native.Nat.{_≤_, _-_}
+use native.Mathlib.Omega.{arith}
+use borrow.Author.Needs.{needs}
+use Rattle.limits.specs.Limits.{row}
+use Rattle.cutting.proofs.Relaid.{Reaching, reaching-none, reaching-more, reaching-end}
 use Rattle.cutting.proofs.again.reach.Statement.{statement}
 use Rattle.cutting.proofs.again.reach.Tie as tie
 

@@ -1,11 +1,11 @@
 -- `lanes::begin`: the lanes below x are the veil's.
-use borrow.Author.Needs.{needs}
-use native.Mathlib.Omega.{arith}
-use Rattle.cutting.proofs.Rows.{Begins, begins-none, begins-more, begins-end}
-use Rattle.limits.specs.Limits.{row, all-cells}
 use mathlib.Core.Path.{_≡_}
 use Prim.Native.Nat.{_≤_, _-_}
 use lib.ListN.{length}
+use native.Mathlib.Omega.{arith}
+use borrow.Author.Needs.{needs}
+use Rattle.limits.specs.Limits.{row, all-cells}
+use Rattle.cutting.proofs.Rows.{Begins, begins-none, begins-more, begins-end}
 use Rattle.cutting.proofs.lanes.begin.Statement.{statement}
 use Rattle.cutting.proofs.lanes.begin.Tie as tie
 

@@ -1,11 +1,11 @@
 -- `marks::clear`: the cells below k are 0.
-use Rattle.limits.specs.Limits.{all-cells}
-use Rattle.cutting.specs.Marks.{Cleared}
-use Rattle.cutting.proofs.Marking.{cleared-none, cleared-more, cleared-at}
-use native.Mathlib.Omega.{arith}
 use mathlib.Core.Path.{_≡_}
 use Prim.Native.Nat.{_≤_, _-_}
 use lib.ListN.{length, length-set}
+use native.Mathlib.Omega.{arith}
+use Rattle.limits.specs.Limits.{all-cells}
+use Rattle.cutting.specs.Marks.{Cleared}
+use Rattle.cutting.proofs.Marking.{cleared-none, cleared-more, cleared-at}
 use Rattle.cutting.proofs.marks.clear.Statement.{statement}
 use Rattle.cutting.proofs.marks.clear.Tie as tie
 

@@ -1,9 +1,9 @@
 -- `marks::mark`: the lines before c are in the set.
-use native.Mathlib.Omega.{arith}
-use Rattle.cutting.specs.Marks.{restIn}
-use Rattle.rules.specs.Follow.{rest-end}
-use Rattle.cutting.proofs.Marking.{Marking, marking-none, marking-more, marking-end}
 use Prim.Native.Nat.{_≤_, _-_}
+use native.Mathlib.Omega.{arith}
+use Rattle.rules.specs.Follow.{rest-end}
+use Rattle.cutting.specs.Marks.{restIn}
+use Rattle.cutting.proofs.Marking.{Marking, marking-none, marking-more, marking-end}
 use Rattle.cutting.proofs.marks.mark.Statement.{statement}
 use Rattle.cutting.proofs.marks.mark.Tie as tie
 

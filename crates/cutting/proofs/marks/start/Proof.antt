@@ -1,7 +1,7 @@
 -- `marks::start`: the whole range alone.
 use native.Mathlib.Omega.{arith}
-use Rattle.cutting.proofs.Marking.{started}
 use borrow.Author.Needs.{needs}
+use Rattle.cutting.proofs.Marking.{started}
 use Rattle.cutting.proofs.marks.start.Statement.{statement}
 use Rattle.cutting.proofs.marks.start.Tie as tie
 

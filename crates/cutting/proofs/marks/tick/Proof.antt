@@ -1,7 +1,7 @@
 -- `marks::tick`: a side is left out.
 use native.Mathlib.Omega.{arith}
-use Rattle.cutting.proofs.Marking.{ticked-none, ticked-set}
 use borrow.Author.Needs.{needs}
+use Rattle.cutting.proofs.Marking.{ticked-none, ticked-set}
 use Rattle.cutting.proofs.marks.tick.Statement.{statement}
 use Rattle.cutting.proofs.marks.tick.Tie as tie
 

@@ -1,11 +1,11 @@
 -- `marks::trace_all`: the ranges to a corner from j on have been met.
-use native.Mathlib.Omega.{arith}
-use Rattle.cutting.specs.Marks.{Goes}
-use Rattle.cutting.proofs.Tracing.{tracing-at}
-use Rattle.limits.specs.Limits.{row, all-cells}
 use mathlib.Core.Path.{_≡_, refl}
 use Prim.Native.Nat.{_≤_}
 use lib.ListN.{length}
+use native.Mathlib.Omega.{arith}
+use Rattle.limits.specs.Limits.{row, all-cells}
+use Rattle.cutting.specs.Marks.{Goes}
+use Rattle.cutting.proofs.Tracing.{tracing-at}
 use Rattle.cutting.proofs.marks.trace_all.Statement.{statement}
 use Rattle.cutting.proofs.marks.trace_all.Tie as tie
 

@@ -1,11 +1,11 @@
 -- `marks::trace_column`: the ranges to j from below i have been met.
-use native.Mathlib.Omega.{arith}
-use Rattle.cutting.specs.Marks.{Goes}
-use Rattle.cutting.proofs.Tracing.{tracing-open, tracing-close}
-use Rattle.limits.specs.Limits.{row, all-cells}
 use mathlib.Core.Path.{_≡_, refl}
 use Prim.Native.Nat.{_+_, _-_, _≤_}
 use lib.ListN.{length}
+use native.Mathlib.Omega.{arith}
+use Rattle.limits.specs.Limits.{row, all-cells}
+use Rattle.cutting.specs.Marks.{Goes}
+use Rattle.cutting.proofs.Tracing.{tracing-open, tracing-close}
 use Rattle.cutting.proofs.marks.trace_column.Statement.{statement}
 use Rattle.cutting.proofs.marks.trace_column.Tie as tie
 

@@ -1,9 +1,12 @@
 -- `marks::visit`: the range is not in the set, or its lines come into it.
+use mathlib.Core.Path.{sym, _∙_}
+use lib.Dec.{T}
 use native.Mathlib.Omega.{arith}
+use borrow.Author.Needs.{needs}
+use Rattle.rules.specs.Cells.{marked}
+use Rattle.cutting.specs.Marks.{Ticks}
 use Rattle.cutting.proofs.Marking.{ticks-marked}
 use Rattle.cutting.proofs.Tracing.{tracing-not, tracing-by}
-use mathlib.Core.Path.{sym, _∙_}
-use borrow.Author.Needs.{needs}
 use Rattle.cutting.proofs.marks.visit.Statement.{statement}
 use Rattle.cutting.proofs.marks.visit.Tie as tie
 
@@ -32,24 +35,30 @@ centre-requires c κs =
       pre .0 .2,
     )
 
+-- ---- where the range is in the set
+abbrev start : tie.Else1 → tie.Start
+start c = c .before .before .before .before .before .before .before .before .before
+
+in-set : (c : tie.Else1) → (let a = start c .args in Ticks (a .pairs .now) → T (marked (a .pairs .now) (a .i) (a .j)))
+in-set c t =
+    let s = start c in
+    ticks-marked (s .args .i) (s .args .j) t (omega (arith, s .pre .0 .2, s .pre .0 .3)) (s .pre .0 .3)
+    (λ e. c .if1 .left (c .before .cell .ensures ∙ e))
+
 mark-requires : tie.Need-mark-requires
 mark-requires c κs =
     let after-centre = c .before .before .before .before in
     let at-if1 = after-centre .before .before in
-    let after-cell = at-if1 .before in
-    let start = after-cell .before .before .before .before .before .before .before .before in
-    let t = start .pre .1 .2 in
-    let h =
-    ticks-marked (start .args .i) (start .args .j) (t .ticks) (omega (arith, start .pre .0 .2, start .pre .0 .3))
-    (start .pre .0 .3) (λ e. at-if1 .if1 .left (after-cell .cell .ensures ∙ e)) in (
+    let pre = start at-if1 .pre in
+    let t = pre .1 .2 in (
       record {
         val-size = t .val-size;
         left-size = t .left-size;
-        col-size = omega (arith, start .pre .0 .1, after-centre .centre .kept .1 .1 .1 .1 .0);
-        last = start .pre .0 .3;
+        col-size = omega (arith, pre .0 .1, after-centre .centre .kept .1 .1 .1 .1 .0);
+        last = pre .0 .3;
       },
-      after-centre .centre .ensures _ _ _ t h .0,
-      omega (arith, start .pre .0 .2),
+      after-centre .centre .ensures _ _ _ t (in-set at-if1 (t .ticks)) .0,
+      omega (arith, pre .0 .2),
       t .ticks,
     )
 
@@ -64,13 +73,8 @@ returns-2 c =
     let after-mark = c .before .before in
     let after-centre = after-mark .before .before .before .before .before in
     let at-if1 = after-centre .before .before in
-    let after-cell = at-if1 .before in
-    let start = after-cell .before .before .before .before .before .before .before .before in
     λ cuts n t.
-    let h =
-    ticks-marked (start .args .i) (start .args .j) (t .ticks)
-    (omega (arith, start .pre .0 .2, start .pre .0 .3)) (start .pre .0 .3)
-    (λ e. at-if1 .if1 .left (after-cell .cell .ensures ∙ e)) in
+    let h = in-set at-if1 (t .ticks) in
     tracing-by t h (after-centre .centre .ensures _ _ _ t h .1) (after-mark .mark .ensures)
 
 pub visit-spec : {M : Type 1} → statement M

@@ -1,8 +1,8 @@
 -- `pieces::centre`: the lowest takes every corner, or the pick is made of all.
 use native.Mathlib.Omega.{arith}
+use borrow.Author.Needs.{needs}
 use Rattle.cutting.proofs.Tracing.{picked-as, lowest-picked}
 use Rattle.cutting.proofs.Relaid.{lanes-lowest}
-use borrow.Author.Needs.{needs}
 use Rattle.cutting.proofs.pieces.centre.Statement.{statement}
 use Rattle.cutting.proofs.pieces.centre.Tie as tie
 

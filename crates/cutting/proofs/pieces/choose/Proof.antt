@@ -1,7 +1,7 @@
 -- `pieces::choose`: a return for each case of `better`.
-use Rattle.cutting.proofs.Corners.{better-none, better-less, better-not, better-unfit}
 use mathlib.Core.Path.{sym, _∙_}
 use borrow.Author.Needs.{needs}
+use Rattle.cutting.proofs.Corners.{better-none, better-less, better-not, better-unfit}
 use Rattle.cutting.proofs.pieces.choose.Statement.{statement}
 use Rattle.cutting.proofs.pieces.choose.Tie as tie
 

@@ -1,12 +1,12 @@
 -- `pieces::earlier`: which comes first is decided by what is left from c on.
-use Rattle.rules.specs.Follow.{rest-end}
-use Rattle.cutting.proofs.Corners.{less-on, less-at, less-end}
-use Rattle.rules.specs.Choice.{less}
-use Rattle.cutting.specs.Marks.{restIn}
-use borrow.Author.Needs.{needs}
-use native.Mathlib.Omega.{arith}
 use mathlib.Core.Path.{_≡_, refl}
 use Prim.Native.Nat.{_≤_, _-_}
+use native.Mathlib.Omega.{arith}
+use borrow.Author.Needs.{needs}
+use Rattle.rules.specs.Follow.{rest-end}
+use Rattle.rules.specs.Choice.{less}
+use Rattle.cutting.specs.Marks.{restIn}
+use Rattle.cutting.proofs.Corners.{less-on, less-at, less-end}
 use Rattle.cutting.proofs.pieces.earlier.Statement.{statement}
 use Rattle.cutting.proofs.pieces.earlier.Tie as tie
 

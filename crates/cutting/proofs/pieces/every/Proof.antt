@@ -1,11 +1,11 @@
 -- `pieces::every`: every corner before c is taken.
-use borrow.Author.Needs.{needs}
-use native.Mathlib.Omega.{arith}
-use Rattle.cutting.specs.Marks.{nextIn}
-use Rattle.cutting.proofs.Values.{never}
 use mathlib.Core.Path.{_≡_, refl, sym, _∙_}
 use Prim.Native.Nat.{ℕ, suc, _≤_, _<_, _-_}
+use native.Mathlib.Omega.{arith}
+use borrow.Author.Needs.{needs}
 use borrow.Author.Count.{below-more}
+use Rattle.cutting.specs.Marks.{nextIn}
+use Rattle.cutting.proofs.Values.{never}
 use Rattle.cutting.proofs.pieces.every.Statement.{statement}
 use Rattle.cutting.proofs.pieces.every.Tie as tie
 

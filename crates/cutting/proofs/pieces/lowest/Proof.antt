@@ -1,11 +1,11 @@
 -- `pieces::lowest`: no centre before x fits.
-use borrow.Author.Needs.{needs}
-use native.Mathlib.Omega.{arith}
-use Rattle.cutting.specs.Marks.{fitsIn}
 use mathlib.Core.Path.{_≡_, sym, _∙_}
 use mathlib.Core.Bool.{true, false}
 use Prim.Native.Nat.{ℕ, _≤_, _<_, _-_}
+use native.Mathlib.Omega.{arith}
+use borrow.Author.Needs.{needs}
 use borrow.Author.Count.{below-more}
+use Rattle.cutting.specs.Marks.{fitsIn}
 use Rattle.cutting.proofs.pieces.lowest.Statement.{statement}
 use Rattle.cutting.proofs.pieces.lowest.Tie as tie
 

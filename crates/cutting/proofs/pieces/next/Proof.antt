@@ -1,8 +1,8 @@
 -- `pieces::next`: what is found on the road to x, or to j.
-use Rattle.cutting.proofs.Corners.{found-left, found-right}
-use borrow.Author.Needs.{needs}
 use native.Mathlib.Omega.{arith}
 use borrow.Author.Needs.{needs}
+use borrow.Author.Needs.{needs}
+use Rattle.cutting.proofs.Corners.{found-left, found-right}
 use Rattle.cutting.proofs.pieces.next.Statement.{statement}
 use Rattle.cutting.proofs.pieces.next.Tie as tie
 

@@ -1,12 +1,12 @@
 -- `pieces::pick`: best is the pick of the centres below x.
+use mathlib.Core.Path.{_≡_}
+use Prim.Native.Nat.{_≤_, _-_, _+_}
 use native.Mathlib.Omega.{arith}
-use Rattle.cutting.proofs.Corners.{pick-range, pick-none, pick-more, pick-end}
 use Rattle.rules.specs.Cutting.{one}
 use Rattle.rules.specs.Choice.{pickFrom}
 use Rattle.rules.specs.Cells.{cell}
 use Rattle.cutting.specs.Rows.{none}
-use mathlib.Core.Path.{_≡_}
-use Prim.Native.Nat.{_≤_, _-_, _+_}
+use Rattle.cutting.proofs.Corners.{pick-range, pick-none, pick-more, pick-end}
 use Rattle.cutting.proofs.pieces.pick.Statement.{statement}
 use Rattle.cutting.proofs.pieces.pick.Tie as tie
 

@@ -1,8 +1,8 @@
 -- `pieces::ready`: the lane of x is not needed, or is filled.
-use native.Mathlib.Omega.{arith}
-use Rattle.cutting.proofs.Relaid.{lanes-not, lanes-more}
 use mathlib.Core.Path.{sym, _∙_}
+use native.Mathlib.Omega.{arith}
 use borrow.Author.Needs.{needs}
+use Rattle.cutting.proofs.Relaid.{lanes-not, lanes-more}
 use Rattle.cutting.proofs.pieces.ready.Statement.{statement}
 use Rattle.cutting.proofs.pieces.ready.Tie as tie
 

@@ -1,12 +1,12 @@
 -- `pieces::seek`: no corner before b costs what is looked for.
-use Rattle.rules.specs.Columns.{costs}
-use Rattle.cutting.specs.Rows.{none}
-use Rattle.rules.specs.Cells.{cell}
-use borrow.Author.Count.{below-more}
-use borrow.Author.Needs.{needs}
-use native.Mathlib.Omega.{arith}
 use mathlib.Core.Path.{_≡_}
 use Prim.Native.Nat.{ℕ, _≤_, _<_, _-_}
+use native.Mathlib.Omega.{arith}
+use borrow.Author.Count.{below-more}
+use borrow.Author.Needs.{needs}
+use Rattle.rules.specs.Columns.{costs}
+use Rattle.rules.specs.Cells.{cell}
+use Rattle.cutting.specs.Rows.{none}
 use Rattle.cutting.proofs.pieces.seek.Statement.{statement}
 use Rattle.cutting.proofs.pieces.seek.Tie as tie
 

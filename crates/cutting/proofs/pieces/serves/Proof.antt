@@ -1,6 +1,6 @@
 -- `pieces::serves`: the sum as it is added up.
-use Rattle.cutting.proofs.Corners.{fits-is}
 use borrow.Author.Needs.{needs}
+use Rattle.cutting.proofs.Corners.{fits-is}
 use Rattle.cutting.proofs.pieces.serves.Statement.{statement}
 use Rattle.cutting.proofs.pieces.serves.Tie as tie
 

@@ -1,7 +1,7 @@
 -- `sight::both`: one law for each return.
 use native.Mathlib.Omega.{arith}
-use Rattle.cutting.proofs.Readings.{both-first, both-second, both-open}
 use borrow.Author.Needs.{needs}
+use Rattle.cutting.proofs.Readings.{both-first, both-second, both-open}
 use Rattle.cutting.proofs.sight.both.Statement.{statement}
 use Rattle.cutting.proofs.sight.both.Tie as tie
 

@@ -1,11 +1,11 @@
 -- `sight::read`: the corners below y have been read.
-use native.Mathlib.Omega.{arith}
-use Rattle.cutting.proofs.Readings.{read-none, read-at}
-use Rattle.cutting.specs.Rows.{Read}
-use Rattle.limits.specs.Limits.{all-cells}
 use mathlib.Core.Path.{_≡_}
 use Prim.Native.Nat.{_≤_, _-_}
 use lib.ListN.{length}
+use native.Mathlib.Omega.{arith}
+use Rattle.limits.specs.Limits.{all-cells}
+use Rattle.cutting.specs.Rows.{Read}
+use Rattle.cutting.proofs.Readings.{read-none, read-at}
 use Rattle.cutting.proofs.sight.read.Statement.{statement}
 use Rattle.cutting.proofs.sight.read.Tie as tie
 

@@ -1,11 +1,11 @@
 -- `sight::read_corner`: the corners below x have been read with y.
-use borrow.Author.Needs.{needs}
-use native.Mathlib.Omega.{arith}
-use Rattle.cutting.proofs.Readings.{Reading, reading-none, reading-more, reading-end, both-is}
-use Rattle.limits.specs.Limits.{all-cells}
 use mathlib.Core.Path.{_≡_}
 use Prim.Native.Nat.{_≤_, _-_}
 use lib.ListN.{length}
+use native.Mathlib.Omega.{arith}
+use borrow.Author.Needs.{needs}
+use Rattle.limits.specs.Limits.{all-cells}
+use Rattle.cutting.proofs.Readings.{Reading, reading-none, reading-more, reading-end, both-is}
 use Rattle.cutting.proofs.sight.read_corner.Statement.{statement}
 use Rattle.cutting.proofs.sight.read_corner.Tie as tie
 

@@ -1,6 +1,6 @@
 -- `sight::shade`: one pair for each return.
-use Rattle.cutting.proofs.Values.{never}
 use mathlib.Core.Path.{refl, sym, _∙_}
+use Rattle.cutting.proofs.Values.{never}
 use Rattle.cutting.proofs.sight.shade.Statement.{statement}
 use Rattle.cutting.proofs.sight.shade.Tie as tie
 
