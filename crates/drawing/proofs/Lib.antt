@@ -1,6 +1,15 @@
 -- signed numbers of the machine
 mod Machine
--- the table of sight as it fills
-mod Cells
+-- ---- the table of sight as it fills
+-- rows of noughts
+mod Blank
+-- how its steps add up
+mod Growing
+-- one pair's two cells
+mod Pairs
+-- the neighbours
+mod Neighbours
+-- a row, and all rows
+mod Rows
 -- the words of what the corners know, as they are written
 mod Words

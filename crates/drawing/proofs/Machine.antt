@@ -1,22 +1,28 @@
--- Signed numbers of the machine: what a comparison of two of them tells, and that the products of coordinates' differences fit.
+-- Signed numbers of the machine: what a comparison of two of them tells, and that the products of coordinates'
+-- differences fit.
 use mathlib.Core.Path.{_≡_, refl, sym, ap, _∙_, subst}
 use mathlib.Core.Bool.{Bool, true, false}
-use Prim.Native.Nat.{ℕ, _^_, _≤_, _<_}
+use mathlib.Core.Logic.{_⊎_, inl, inr}
+use Prim.Native.Nat.{ℕ, _+_, _*_, _^_, _≤_, _<_}
 use native.Mathlib.Omega.{arith}
-use lib.IntN.{ℤ, natAbs, _-ℤ_, _*ℤ_}
+use lib.Bits.{bitOr}
+use lib.Dec.{eqb}
+use lib.IntN.{ℤ, pos, natAbs, _-ℤ_, _*ℤ_}
 use lib.Signed.{mag, leZ, ltZ, _≤ℤ_, _<ℤ_}
 use mir.Syntax.{w64}
 use mir.Val.{toZ, ofZ, boolByte}
 use mir.Facts.{toZ-ofZ}
 use borrow.Author.Needs.{sfits-of}
-use Rattle.whole.specs.Masks.{Digit}
+use Rattle.whole.specs.Masks.{Digit, Made, made-room}
 use Rattle.whole.specs.Bounds.{Val, fit, par, loc, less, times}
 use Rattle.limits.specs.Limits.{furthest}
 use Rattle.drawing.specs.Drawing.{Point, Turn}
 use Rattle.drawing.specs.Segments.{Dot}
 use Rattle.drawing.specs.Quick.{Touch}
-use Rattle.drawing.specs.Tells.{Tells}
+use Rattle.drawing.specs.Tells.{Tells, as-well, eq-tells}
 use Rattle.drawing.specs.Parts.{Close}
+use Rattle.drawing.specs.Away.{Far}
+use Rattle.drawing.specs.declared.segment.Place.{Place}
 
 -- ---- a comparison as an answer
 module _ {z x u y : ℤ} {P : Type 0} (hz : z ≡ x) (hu : u ≡ y) where
@@ -38,6 +44,10 @@ held ok e = toZ-ofZ (sfits-of ok) ∙ e
 pub same-bits : {m n : ℕ} {x y : ℤ} → toZ w64 m ≡ x → toZ w64 n ≡ y → m ≡ n → x ≡ y
 same-bits p q e = sym p ∙ ap (toZ w64) e ∙ q
 
+pub by-nought : {r x : ℤ} → mag r < 2 ^ 63 → r ≡ x → Tells (eqb (ofZ w64 r) 0) (x ≡ pos 0)
+by-nought {r} ok is =
+    as-well (eq-tells (ofZ w64 r) 0) (λ e. same-bits (held ok is) refl e) (λ e. ap (ofZ w64) (is ∙ e))
+
 -- a coordinate
 own : {x : ℤ} → natAbs x ≤ furthest → Val (back x) x furthest
 own {x} h = par (fit {z = x} tt (record { is = refl; below = h })) h
@@ -48,6 +58,14 @@ module _ {p : Point} (h : Close p) where
 
   pub the-y : Val (back (p .y)) (p .y) furthest
   the-y = own (h .close-y)
+
+-- a coordinate from another corner
+module _ {p : Place} (h : Far p) where
+  pub x-away : Val (back (p .x)) (p .x) (2 * furthest)
+  x-away = par (fit {z = p .x} tt (record { is = refl; below = h .far-x })) (h .far-x)
+
+  pub y-away : Val (back (p .y)) (p .y) (2 * furthest)
+  y-away = par (fit {z = p .y} tt (record { is = refl; below = h .far-y })) (h .far-y)
 
 -- the product of two differences, each held in a local
 pub product : {z x u y s a t b : ℤ} → Val z x furthest → Val u y furthest → Val s a furthest → Val t b furthest →
@@ -73,3 +91,44 @@ digit-small false = omega arith
 pub digit : {b : Bool} {P : Type 0} → Tells b P → Digit (boolByte b) P
 digit {b = true} t = record { small = digit-small true; one = λ e. t .sure tt; nought = λ e. absurd (omega arith) }
 digit {b = false} t = record { small = digit-small false; one = λ e. absurd (omega arith); nought = λ e p. t .told p }
+
+-- of two tests, either
+pub either-small : (b c : Bool) → bitOr (boolByte b) (boolByte c) < 2
+either-small true true = omega arith
+either-small true false = omega arith
+either-small false true = omega arith
+either-small false false = omega arith
+
+pub either : {b c : Bool} {P Q : Type 0} → Tells b P → Tells c Q → Digit (bitOr (boolByte b) (boolByte c)) (P ⊎ Q)
+either {b = true} {c = true} f g = record {
+  small = omega arith;
+  one = λ e. inl (f .sure tt);
+  nought = λ e. absurd (omega arith);
+}
+either {b = true} {c = false} f g = record {
+  small = omega arith;
+  one = λ e. inl (f .sure tt);
+  nought = λ e. absurd (omega arith);
+}
+either {b = false} {c = true} f g = record {
+  small = omega arith;
+  one = λ e. inr (g .sure tt);
+  nought = λ e. absurd (omega arith);
+}
+either {b = false} {c = false} {P} {Q} f g = record {
+  small = omega arith;
+  one = λ e. absurd (omega arith);
+  nought = λ e. none;
+}
+  where
+    none : P ⊎ Q → ⊥
+    none (inl p) = f .told p
+    none (inr q) = g .told q
+
+-- ---- a mask as it is made: there is room for one digit more, and so for a 0
+module _ {n t m : ℕ} {P : ℕ → Type 0} (l : t < n) (few : n ≤ 64) (made : Made n t m P) where
+  pub digit-fits : (b : Bool) → m * 2 + boolByte b < 2 ^ 64
+  digit-fits b = made-room l made few (digit-small b)
+
+  pub double-fits : m * 2 < 2 ^ 64
+  double-fits = let r = made-room {b = 0} l made few (omega arith) in omega (arith, r)

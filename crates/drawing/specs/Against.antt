@@ -12,7 +12,8 @@ use Rattle.drawing.specs.Ends.{OnlyEnd}
 use Rattle.drawing.specs.Spell.{A, B, C, D, P, Q, R, O, I, env, env4, TurnE, DotE, ab-x, ab-y, cd-x, cd-y}
 
 -- ---- a strictly left of cd, and b on its line but off the segment: nothing is shared
--- the turns of a and b from cd, weighed by the shared point's place on ab, make nothing; so the point is b, and b is on the segment
+-- the turns of a and b from cd, weighed by the shared point's place on ab, make nothing; so the point is b, and b is
+-- on the segment
 weighed : E
 weighed = (R :- P) :* TurnE C D A :+ P :* TurnE C D B
 
@@ -37,7 +38,8 @@ aside {a} {b} {c} {d} left on off s =
     (nonneg-mul (nonneg-mul (s .q-from) (le-sub (s .q-to))) (dot-nonneg c d))))
 
 -- the right side of cd is the left side of dc
-pub aside-right : {a b c d : Point} → Turn c d a <ℤ pos 0 → Turn c d b ≡ pos 0 → Positive (Dot b c d) → ¬ Shared a b c d
+pub aside-right : {a b c d : Point} → Turn c d a <ℤ pos 0 → Turn c d b ≡ pos 0 → Positive (Dot b c d) →
+    ¬ Shared a b c d
 aside-right {a} {b} {c} {d} right on off s =
     let ρ = env4 a b c d in
     aside (by-ring ρ Positive (O :- TurnE C D A) (TurnE D C A) refl (lt-sub right))
@@ -87,7 +89,8 @@ module _ (p i q j : Point) where
       go (inr l) = inl (angle-both l a .0)
 
   -- ---- inside the angle, the two sides share only i with the segment ij
-  -- with i as origin (j . j)(q x p) = (j . q)(j x p) - (j x q)(j . p): j along q, and left of pi, would make the angle turn left
+  -- with i as origin (j . j)(q x p) = (j . q)(j x p) - (j x q)(j . p): j along q, and left of pi, would make the angle
+  -- turn left
   off-after : Positive (Turn p i j) → Turn p i q ≤ℤ pos 0 → OnlyEnd i j q
   off-after s n t = go (≤ℤ-total (Dot i j q) (pos 0))
     where
@@ -95,7 +98,8 @@ module _ (p i q j : Point) where
       go (inl h) = h
       go (inr h) =
           absurd (clashℤ (positive-cancel (dot-nonneg i j) (subst Positive
-          (ring1 (env4 p i q j) (DotE B D C :* TurnE A B D) (DotE B D D :* TurnE A B C) (DotE B D A) (TurnE B D C) O t refl)
+          (ring1 (env4 p i q j) (DotE B D C :* TurnE A B D) (DotE B D D :* TurnE A B C) (DotE B D A)
+          (TurnE B D C) O t refl)
           (positive-mul h s))) n)
 
   off-before : Positive (Turn i q j) → Turn p i q ≤ℤ pos 0 → OnlyEnd i j p
@@ -105,7 +109,8 @@ module _ (p i q j : Point) where
       go (inl h) = h
       go (inr h) =
           absurd (clashℤ (positive-cancel (dot-nonneg i j) (subst Positive
-          (ring1 (env4 p i q j) (DotE B D A :* TurnE B C D) (DotE B D D :* TurnE A B C) (neg (DotE B D C)) (TurnE B D A) O t refl)
+          (ring1 (env4 p i q j) (DotE B D A :* TurnE B C D) (DotE B D D :* TurnE A B C) (neg (DotE B D C))
+          (TurnE B D A) O t refl)
           (positive-mul h s))) n)
 
   clear-after : Positive (Turn i q j) → OnlyEnd i j q
@@ -113,7 +118,8 @@ module _ (p i q j : Point) where
       absurd (<ℤ-irrefl (subst Positive (ring1 (env4 p i q j) (TurnE B C D) O (neg I) (TurnE B D C) O t refl) s))
 
   clear-before : Positive (Turn p i j) → OnlyEnd i j p
-  clear-before s t = absurd (<ℤ-irrefl (subst Positive (ring1 (env4 p i q j) (TurnE A B D) O I (TurnE B D A) O t refl) s))
+  clear-before s t =
+      absurd (<ℤ-irrefl (subst Positive (ring1 (env4 p i q j) (TurnE A B D) O I (TurnE B D A) O t refl) s))
 
   pub angle-ends : InsideAngle p i q j → OnlyEnd i j p × OnlyEnd i j q
   angle-ends a = go (≤ℤ-total (Turn p i q) (pos 0))
@@ -146,4 +152,5 @@ pub at-end : (i j m : Point) → Turn j m i ≡ pos 0 → Dot i j m ≤ℤ pos 0
 at-end i j m t h o =
     let ρ = env4 i j m m in
     let k = o (ring1 ρ (TurnE B A C) O (neg I) (TurnE B C A) O t refl) in
-    sub-le (by-ring ρ Nonneg (O :- DotE A B C :+ (O :- DotE B A C)) (O :- DotE A B B) refl (nonneg-add (le-sub h) (le-sub k)))
+    sub-le (by-ring ρ Nonneg (O :- DotE A B C :+ (O :- DotE B A C)) (O :- DotE A B B) refl
+    (nonneg-add (le-sub h) (le-sub k)))

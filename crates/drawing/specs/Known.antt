@@ -1,17 +1,20 @@
--- What a corner knows of the sides: which it lies left of, which right of, and on the line of which, each as a mask
--- with a digit for each side; and how many of the two sides at it another corner has to lie left of, to be inside the
--- angle there.
+-- What a corner knows of the sides: which it lies left of, which right of, on the line of which, and which have an end
+-- lower than it or west of it, each as a mask with a digit for each side; and how many of the two sides at it another
+-- corner has to lie left of, to be inside the angle there.
 use mathlib.Core.Path.{_≡_}
 use mathlib.Core.Logic.{_⊎_}
 use mathlib.Core.List.{List}
-use Prim.Native.Nat.{ℕ, _+_, _*_, _<_}
+use Prim.Native.Nat.{ℕ, _+_, _*_, _^_, _≤_, _<_, min, max}
 use lib.IntN.{ℤ, pos}
 use lib.ListN.{length, getD}
 use lib.Signed.{_≤ℤ_, _<ℤ_}
 use Rattle.limits.specs.Limits.{most-corners}
+use Rattle.whole.specs.Bits.{bit}
 use Rattle.whole.specs.Masks.{Marks}
 use Rattle.drawing.specs.Drawing.{corner, corners, after, prev, Turn, EndsAt, Angle, Shared}
 use Rattle.drawing.specs.Segments.{Apart, Dot}
+use Rattle.drawing.specs.declared.faced.Bends.{Bends}
+use Rattle.drawing.specs.declared.masks.Against.{Against}
 use Rattle.drawing.specs.declared.masks.Known.{Known}
 use Rattle.drawing.specs.declared.seeing.Met.{Met}
 use Rattle.drawing.specs.declared.seeing.Met.the-variants as is
@@ -27,9 +30,12 @@ module _ (d : List ℤ) where
   abbrev pub Right : ℕ → ℕ → Type 0
   Right i k = SideTurn i k <ℤ pos 0
 
+  abbrev pub OnLine : ℕ → ℕ → Type 0
+  OnLine i k = SideTurn i k ≡ pos 0
+
   -- on its line, and no end of it
   abbrev pub Along : ℕ → ℕ → Type 0
-  Along i k = (SideTurn i k ≡ pos 0) × (¬ EndsAt d k i)
+  Along i k = OnLine i k × (¬ EndsAt d k i)
 
   -- of a corner on its line: on the side itself
   abbrev pub Within : ℕ → ℕ → Type 0
@@ -56,8 +62,15 @@ module _ (d : List ℤ) where
   abbrev pub Needs : ℕ → ℕ → Type 0
   Needs i v = ((2 < v) × OnSide i) ⊎ ((¬ OnSide i) × (((v ≡ 2) × TurnsLeft i) ⊎ ((v ≡ 1) × (¬ TurnsLeft i))))
 
+  -- side k has an end strictly lower than corner i, or strictly west of it
+  abbrev pub Low : ℕ → ℕ → Type 0
+  Low i k = (corner d k .y <ℤ corner d i .y) ⊎ (corner d (after d k) .y <ℤ corner d i .y)
+
+  abbrev pub West : ℕ → ℕ → Type 0
+  West i k = (corner d k .x <ℤ corner d i .x) ⊎ (corner d (after d k) .x <ℤ corner d i .x)
+
   -- ---- the line of sight ij and side k
-  -- the sides that are to be looked at: the side's line has i and j strictly apart, or both are on it
+  -- the side's line has i and j strictly apart, or both are on it
   abbrev pub Open : ℕ → ℕ → ℕ → Type 0
   Open i j k = Apart (SideTurn i k) (SideTurn j k) ⊎ (Along i k × Along j k)
 
@@ -65,9 +78,18 @@ module _ (d : List ℤ) where
   abbrev pub Hides : ℕ → ℕ → ℕ → Type 0
   Hides i j k = Shared (corner d i) (corner d j) (corner d k) (corner d (after d k))
 
+  abbrev pub NoneHides : ℕ → ℕ → Type 0
+  NoneHides i j = (k : ℕ) → k < corners d → Open i j k → ¬ Hides i j k
+
+  -- the sides that m marks are open, and every open side that hides is among them
+  pub record Looks (i j m : ℕ) : Type 0 where
+    pub is-open : (k : ℕ) → bit m k ≡ 1 → (k < corners d) × Open i j k
+    pub all : (k : ℕ) → k < corners d → Open i j k → Hides i j k → bit m k ≡ 1
+
   -- the ends of side k are strictly apart about the line ij
   abbrev pub Across : ℕ → ℕ → ℕ → Type 0
-  Across i j k = Apart (Turn (corner d i) (corner d j) (corner d k)) (Turn (corner d i) (corner d j) (corner d (after d k)))
+  Across i j k =
+      Apart (Turn (corner d i) (corner d j) (corner d k)) (Turn (corner d i) (corner d j) (corner d (after d k)))
 
   -- how ij meets an open side: not at all; across it; or else it touches the side, at an end or along it
   abbrev pub Meets : ℕ → ℕ → ℕ → Met → Type 0
@@ -75,29 +97,70 @@ module _ (d : List ℤ) where
   Meets i j k is.Touched = Hides i j k × (¬ Across i j k)
   Meets i j k is.Crossed = Hides i j k × Across i j k
 
+-- of two corners on one axis: the marks of either are marks of m, and every side is one, where neither is further
+abbrev pub Reaches : ℤ → ℕ → ℤ → ℕ → ℕ → Type 0
+Reaches p u q w m = (k : ℕ) → k < 64 → (p ≡ q) ⊎ ((bit u k ≡ 1) ⊎ (bit w k ≡ 1)) → bit m k ≡ 1
+
 -- ---- a corner's words
 -- where corner i lies against every side
-pub record Lies (d : List ℤ) (i left right along : ℕ) : Type 0 where
-  pub left-of : Marks (corners d) left (Left d i)
-  pub right-of : Marks (corners d) right (Right d i)
-  pub along-of : Marks (corners d) along (Along d i)
+pub record Lies (d : List ℤ) (i : ℕ) (a : Against) : Type 0 where
+  pub left-of : Marks (corners d) (a .left) (Left d i)
+  pub right-of : Marks (corners d) (a .right) (Right d i)
+  pub along-of : Marks (corners d) (a .along) (Along d i)
+  pub low-of : Marks (corners d) (a .low) (Low d i)
+  pub west-of : Marks (corners d) (a .west) (West d i)
+  pub left-fits : a .left < 2 ^ corners d
 
 pub record Knows (d : List ℤ) (i : ℕ) (k : Known) : Type 0 where
-  pub lies : Lies d i (k .left) (k .right) (k .along)
+  pub lies : Lies d i (k .sides)
   pub needs : Needs d i (k .need)
 
--- the words in a list, four for each corner
+-- the words in a list, six for each corner
 abbrev pub all-words : ℕ
-all-words = 4 * most-corners
+all-words = 6 * most-corners
 
 abbrev pub word : List ℕ → ℕ → Known
-word w i = record { left = getD w (4 * i) 0; right = getD w (4 * i + 1) 0; along = getD w (4 * i + 2) 0; need = getD w (4 * i + 3) 0 }
+word w i = record {
+  sides = record {
+    left = getD w (6 * i) 0;
+    right = getD w (6 * i + 1) 0;
+    along = getD w (6 * i + 2) 0;
+    low = getD w (6 * i + 3) 0;
+    west = getD w (6 * i + 4) 0;
+  };
+  need = getD w (6 * i + 5) 0;
+}
 
+abbrev pub need-of : List ℕ → ℕ → ℕ
+need-of w j = word w j .need
+
+-- they hold what the corners before t know
 abbrev pub AllKnown : List ℤ → ℕ → List ℕ → Type 0
 AllKnown d t w = (i : ℕ) → i < t → Knows d i (word w i)
+
+-- there is room for the words of every corner, and they hold what each knows
+pub record Remembered (d : List ℤ) (w : List ℕ) : Type 0 where
+  pub room : all-words ≤ length w
+  pub known : AllKnown d (corners d) w
 
 -- corner i's words are written, and those before them are kept
 pub record Learnt (d : List ℤ) (i : ℕ) (before after : List ℕ) : Type 0 where
   pub knows : Knows d i (word after i)
-  pub kept : (k : ℕ) → k < 4 * i → getD after k 0 ≡ getD before k 0
+  pub kept : (k : ℕ) → k < 6 * i → getD after k 0 ≡ getD before k 0
   pub size : length after ≡ length before
+
+-- ---- masks with a digit for each corner
+-- the corners that have corner i inside the angle
+abbrev pub FacedBy : List ℤ → ℕ → ℕ → Type 0
+FacedBy d i f = Marks (corners d) f (λ j. Facing d j i)
+
+-- a mask of n digits turned by one: digit k is the digit of the corner before k
+abbrev pub Around : ℕ → ℕ → ℕ → Type 0
+Around n m r = (k : ℕ) → k < n → bit r k ≡ bit m (prev n k)
+
+-- of the corners that need two those that have both of their digits, of those that need one those that have either
+pub record Faced (n left : ℕ) (b : Bends) (r : ℕ) : Type 0 where
+  pub at : (k : ℕ) → k < n →
+      bit r k ≡ max (min (min (bit (b .two) k) (bit left k)) (bit left (prev n k)))
+      (min (bit (b .one) k) (max (bit left k) (bit left (prev n k))))
+  pub off : (k : ℕ) → bit (b .two) k ≡ 0 → bit (b .one) k ≡ 0 → bit r k ≡ 0

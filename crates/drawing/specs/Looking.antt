@@ -1,4 +1,5 @@
--- Two corners that are not beside each other see each other exactly when each faces the other and no open side hides one from the other.
+-- Two corners that are not beside each other see each other exactly when each faces the other and no open side hides
+-- one from the other.
 use mathlib.Core.Path.{_≡_, refl, sym, ap, _∙_, subst}
 use mathlib.Core.Logic.{_⊎_, inl, inr, by-cases}
 use mathlib.Core.List.{List}
@@ -17,8 +18,7 @@ use Rattle.drawing.specs.Spell.{A, B, C, O, env4, TurnE, DotE, I}
 use Rattle.drawing.specs.Round.{prev-next}
 use Rattle.drawing.specs.Seeing.{begins-at-i, ends-at-i, begins-at-j, ends-at-j, ends-at-neither}
 use Rattle.drawing.specs.Seeing.{OnlyCorner, sees-of, clear-sight, clear-passes}
-use Rattle.drawing.specs.Against.{aside, aside-right, at-end}
-use Rattle.drawing.specs.Against.{angle-ends, no-angle}
+use Rattle.drawing.specs.Against.{aside, aside-right, at-end, angle-ends, no-angle}
 use Rattle.drawing.specs.Known.{SideTurn, Left, Right, OnSide, Within, Open, Hides, Facing}
 
 module _ (d : List ℤ) where
@@ -68,15 +68,21 @@ module _ (d : List ℤ) where
       go (minus x) (nought y) = aside-right (below x) y (off-side j k l tj ej y) s
       go (minus x) (minus y) = one-side (inr (below x, below y)) (exchanged s)
 
-  -- ---- the sides at i and j pass because of the angles, those that are not open by the law above, the others by the look
+  -- ---- the sides at i and j pass because of the angles, those that are not open by the law above, the others by the
+  -- look
   passes-by : (i j k : ℕ) → k < corners d → ¬ Beside d i j → Facing d i j → Facing d j i →
       (Open d i j k → ¬ Hides d i j k) → Passes d i j k
   passes-by i j k l apart f g look =
-      by-cases (ℕ-discrete k i) (λ e. begins-at-i apart e .0 (subst Ends (ap (after d) (sym e)) (only-sound (at-i .1))))
-      (λ n1. by-cases (ℕ-discrete (after d k) i) (λ e. ends-at-i apart e .0 (subst Ends (back k i l e) (only-sound (at-i .0))))
-      (λ n2. by-cases (ℕ-discrete k j) (λ e. begins-at-j apart e .0 (subst Ends' (ap (after d) (sym e)) (only-sound (at-j .1))))
-      (λ n3. by-cases (ℕ-discrete (after d k) j) (λ e. ends-at-j apart e .0 (subst Ends' (back k j l e) (only-sound (at-j .0))))
-      (λ n4. ends-at-neither n1 n2 n3 n4 .0 (λ s. closed i j k l (f .0) (g .0) (none n1 n2) (none n3 n4) (λ o. look o s) s)))))
+      by-cases (ℕ-discrete k i)
+      (λ e. begins-at-i apart e .0 (subst Ends (ap (after d) (sym e)) (only-sound (at-i .1))))
+      (λ n1. by-cases (ℕ-discrete (after d k) i)
+      (λ e. ends-at-i apart e .0 (subst Ends (back k i l e) (only-sound (at-i .0))))
+      (λ n2. by-cases (ℕ-discrete k j)
+      (λ e. begins-at-j apart e .0 (subst Ends' (ap (after d) (sym e)) (only-sound (at-j .1))))
+      (λ n3. by-cases (ℕ-discrete (after d k) j)
+      (λ e. ends-at-j apart e .0 (subst Ends' (back k j l e) (only-sound (at-j .0))))
+      (λ n4. ends-at-neither n1 n2 n3 n4 .0
+      (λ s. closed i j k l (f .0) (g .0) (none n1 n2) (none n3 n4) (λ o. look o s) s)))))
     where
       Ends : ℕ → Type 0
       Ends m = OnlyCorner d i i j i m
@@ -84,10 +90,12 @@ module _ (d : List ℤ) where
       Ends' : ℕ → Type 0
       Ends' m = OnlyCorner d j j i j m
 
-      at-i : OnlyEnd (corner d i) (corner d j) (corner d (prev (corners d) i)) × OnlyEnd (corner d i) (corner d j) (corner d (after d i))
+      at-i : OnlyEnd (corner d i) (corner d j) (corner d (prev (corners d) i))
+          × OnlyEnd (corner d i) (corner d j) (corner d (after d i))
       at-i = angle-ends (corner d (prev (corners d) i)) (corner d i) (corner d (after d i)) (corner d j) (f .1)
 
-      at-j : OnlyEnd (corner d j) (corner d i) (corner d (prev (corners d) j)) × OnlyEnd (corner d j) (corner d i) (corner d (after d j))
+      at-j : OnlyEnd (corner d j) (corner d i) (corner d (prev (corners d) j))
+          × OnlyEnd (corner d j) (corner d i) (corner d (after d j))
       at-j = angle-ends (corner d (prev (corners d) j)) (corner d j) (corner d (after d j)) (corner d i) (g .1)
 
       back : (k m : ℕ) → k < corners d → after d k ≡ m → prev (corners d) m ≡ k
@@ -101,9 +109,11 @@ module _ (d : List ℤ) where
   on-side-blind : (i j : ℕ) → ¬ Beside d i j → OnSide d i → ¬ Clear d i j
   on-side-blind i j apart t c =
       by-cases (ℕ-discrete k j)
-      (λ e. blind (after d k) (first e) (subst (λ m. Dot' m (after d k)) e (t .within)) (only-complete (begins-at-j apart e .1 pass)))
+      (λ e. blind (after d k) (first e) (subst (λ m. Dot' m (after d k)) e (t .within))
+      (only-complete (begins-at-j apart e .1 pass)))
       (λ n1. by-cases (ℕ-discrete (after d k) j)
-      (λ e. blind k (second e) (swap k j (subst (λ m. Dot' k m) e (t .within))) (only-complete (ends-at-j apart e .1 pass)))
+      (λ e. blind k (second e) (swap k j (subst (λ m. Dot' k m) e (t .within)))
+      (only-complete (ends-at-j apart e .1 pass)))
       (λ n2. pass .other (t .along .1) (none n1 n2) (exchanged (on-line (t .along .0) (t .within)))))
     where
       k : ℕ
@@ -117,7 +127,8 @@ module _ (d : List ℤ) where
 
       swap : (u w : ℕ) → Dot' u w → Dot' w u
       swap u w =
-          subst (λ z. z ≤ℤ pos 0) (ring (env4 (corner d i) (corner d u) (corner d w) (corner d i)) (DotE A B C) (DotE A C B) refl)
+          subst (λ z. z ≤ℤ pos 0)
+          (ring (env4 (corner d i) (corner d u) (corner d w) (corner d i)) (DotE A B C) (DotE A C B) refl)
 
       first : k ≡ j → Turn (corner d j) (corner d (after d k)) (corner d i) ≡ pos 0
       first e = subst (λ m. Turn (corner d m) (corner d (after d k)) (corner d i) ≡ pos 0) e (t .along .0)

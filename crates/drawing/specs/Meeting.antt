@@ -8,7 +8,7 @@ use lib.IntN.{ℤ, pos}
 use lib.Signed.{_<ℤ_, <ℤ-irrefl, clashℤ}
 use Rattle.whole.specs.Order.{Positive, Sign, plus, nought, minus, sign, below, <ℤ-le}
 use Rattle.drawing.specs.Drawing.{corner, after, Turn}
-use Rattle.drawing.specs.Segments.{OneSide, Apart}
+use Rattle.drawing.specs.Segments.{OneSide, Apart, apart-off}
 use Rattle.drawing.specs.Quick.{Touch, quick-sound, quick-complete}
 use Rattle.drawing.specs.Known.{SideTurn, Open, Hides, Meets}
 use Rattle.drawing.specs.declared.seeing.Met.the-variants as is
@@ -17,12 +17,6 @@ use Rattle.drawing.specs.declared.seeing.Met.the-variants as is
 apart-differ : {s t : ℤ} → Apart s t → ¬ (s ≡ t)
 apart-differ (inl h) e = clashℤ (h .0) (<ℤ-le (subst (λ z. z <ℤ pos 0) (sym e) (h .1)))
 apart-differ (inr h) e = clashℤ (h .1) (<ℤ-le (subst (λ z. z <ℤ pos 0) e (h .0)))
-
-apart-not-on : {s t : ℤ} → Apart s t → ¬ ((s ≡ pos 0) ⊎ (t ≡ pos 0))
-apart-not-on (inl h) (inl e) = <ℤ-irrefl (subst Positive e (h .0))
-apart-not-on (inl h) (inr e) = <ℤ-irrefl (subst (λ z. z <ℤ pos 0) e (h .1))
-apart-not-on (inr h) (inl e) = <ℤ-irrefl (subst (λ z. z <ℤ pos 0) e (h .0))
-apart-not-on (inr h) (inr e) = <ℤ-irrefl (subst Positive e (h .1))
 
 apart-of : {s t : ℤ} → ¬ OneSide s t → ¬ (s ≡ pos 0) → ¬ (t ≡ pos 0) → Apart s t
 apart-of {s} {t} n x y = go (sign s) (sign t)
@@ -74,7 +68,7 @@ module _ {d : List ℤ} {i j k : ℕ} (o : Looked d i j k) where
   flat-touched n e h = (hides n (λ e. h), λ a. apart-differ a e)
 
   pub end-touched : ¬ OneSide s t → ¬ (s ≡ t) → (s ≡ pos 0) ⊎ (t ≡ pos 0) → Meets d i j k is.Touched
-  end-touched n e z = (hides n (λ h. absurd (e h)), λ a. apart-not-on a z)
+  end-touched n e z = (hides n (λ h. absurd (e h)), λ a. apart-off a z)
 
   pub crossed : ¬ OneSide s t → ¬ (s ≡ t) → ¬ (s ≡ pos 0) → ¬ (t ≡ pos 0) → Meets d i j k is.Crossed
   crossed n e x y = (hides n (λ h. absurd (e h)), apart-of n x y)

@@ -1,9 +1,11 @@
-// The drawing: whether a list of coordinates is a sound drawing, and which of its corners see each other (document 01).
-// Everything that works on coordinates is in this crate; others learn of a drawing only its judgement and its sight.
+// The drawing: whether a list of coordinates is a sound drawing, and which of its corners see each other
+// (document 01). Everything that works on coordinates is in this crate; others learn of a drawing only its judgement
+// and its sight.
 ghost use Rattle.drawing.specs.Judgement.{Judgement};
 ghost use Rattle.drawing.specs.Sight.{Sight};
 
 mod corners;
+mod faced;
 mod masks;
 mod seeing;
 mod segment;
@@ -41,8 +43,8 @@ pub fn judge(xy: &[i32]) -> Judged
     Judged::Sound
 }
 
-// Who sees whom: cell i * 64 + j is 1 where corner i sees corner j and 0 where not, and every other cell keeps its value.
-// False, and nothing written, where `xy` is no drawing within 01's limits or `cells` has no room for 64 rows.
+// Who sees whom: cell i * 64 + j is 1 where corner i sees corner j and 0 where not, and every other cell keeps its
+// value. False, and nothing written, where `xy` is no drawing within 01's limits or `cells` has no room for 64 rows.
 pub fn sight(xy: &[i32], cells: &mut [u8]) -> bool
     ensures { λ r. ⌜ Sight (now (xy .entry)) (now (cells .entry)) (now (cells .exit)) r ⌝ }
 {

@@ -6,26 +6,28 @@ ghost use Rattle.whole.specs.Masks.{Marks};
 ghost use Rattle.drawing.specs.Drawing.{corners};
 ghost use Rattle.drawing.specs.Sight.{Limits};
 ghost use Rattle.drawing.specs.Tells.{Tells};
-ghost use Rattle.drawing.specs.Known.{SideTurn, Along, Within, OnSide, Needs, Lies, Knows};
+ghost use Rattle.drawing.specs.Known.{Along, Within, OnSide, Needs, Lies, Knows};
+ghost use Rattle.drawing.specs.Away.{Far, Away, Cross};
 use crate::corners::corner;
 use crate::corners::next;
 use crate::corners::prev;
+use crate::segment::Place;
 use crate::segment::dot;
 use crate::segment::turn;
 
-// The sides that a corner lies strictly left of, those that it lies strictly right of, and those whose line it lies
-// on without being an end of the side.
+// The sides that a corner lies strictly left of, those that it lies strictly right of, those whose line it lies on
+// without being an end of the side; and those that have an end strictly lower than the corner, or further west.
 pub struct Against {
     pub left: u64,
     pub right: u64,
     pub along: u64,
+    pub low: u64,
+    pub west: u64,
 }
 
-// The same, and how many of the two sides at the corner another has to lie left of, to be inside the angle.
+// And how many of the two sides at the corner another has to lie left of, to be inside the angle.
 pub struct Known {
-    pub left: u64,
-    pub right: u64,
-    pub along: u64,
+    pub sides: Against,
     pub need: u64,
 }
 
@@ -34,53 +36,69 @@ pub fn know(xy: &[i32], i: usize) -> Known
     ensures { λ r. ⌜ Knows (now (xy .entry)) i r ⌝ }
 {
     let sides = every_side(xy, i);
-    let along = sides.along;
-    let need = need(xy, along, i);
+    let need = need(xy, sides.along, i);
     Known {
-        left: sides.left,
-        right: sides.right,
-        along: along,
+        sides: sides,
         need: need,
     }
 }
 
-// The digits are made from the last side down. Of all sides those are left over that the corner lies neither left nor
-// right of, and of those the two that end at it are taken away.
+// The digits are made from the last side down, so that the far end of a side is the corner that was looked at just
+// before. Of all sides those are right that are neither left nor flat, whose line the corner is on; and of the flat
+// ones the two that end at the corner are taken away.
 fn every_side(xy: &[i32], i: usize) -> Against
     requires { ⌜ Limits (now xy) × (i < corners (now xy)) ⌝ }
-    ensures { λ r. ⌜ Lies (now (xy .entry)) i (r .left) (r .right) (r .along) ⌝ }
+    ensures { λ r. ⌜ Lies (now (xy .entry)) i r ⌝ }
 {
     let n = xy.len() / 2;
     let mut all = 0;
     let mut left = 0;
-    let mut right = 0;
+    let mut flat = 0;
+    let mut low = 0;
+    let mut west = 0;
+    let mut end = away(xy, i, 0);
     for t in 0..n {
         let k = n - (t + 1);
-        let s = side_turn(xy, i, k);
+        let start = away(xy, i, k);
+        let s = cross(start, end);
         all = all * 2 + 1;
         left = left * 2 + (s > 0) as u64;
-        right = right * 2 + (s < 0) as u64;
+        flat = flat * 2 + (s == 0) as u64;
+        low = low * 2 + ((start.y < 0) as u64 | (end.y < 0) as u64);
+        west = west * 2 + ((start.x < 0) as u64 | (end.x < 0) as u64);
+        end = start;
     }
     let h = prev(xy, i);
     let before = 1 << h;
     let after = 1 << i;
     Against {
         left: left,
-        right: right,
-        along: all ^ left ^ right ^ before ^ after,
+        right: all ^ left ^ flat,
+        along: flat ^ before ^ after,
+        low: low,
+        west: west,
     }
 }
 
-// Above zero where corner i lies left of side k.
-fn side_turn(xy: &[i32], i: usize, k: usize) -> i64
+// Corner k, as far as it is from corner i.
+fn away(xy: &[i32], i: usize, k: usize) -> Place
     requires { ⌜ Limits (now xy) × (i < corners (now xy)) × (k < corners (now xy)) ⌝ }
-    ensures { λ r. ⌜ r ≡ SideTurn (now (xy .entry)) i k ⌝ }
+    ensures { λ r. ⌜ Away (now (xy .entry)) i k r ⌝ }
 {
-    let m = next(xy, k);
-    let c = corner(xy, k);
-    let d = corner(xy, m);
     let a = corner(xy, i);
-    turn(c, d, a)
+    let c = corner(xy, k);
+    Place {
+        x: c.x - a.x,
+        y: c.y - a.y,
+    }
+}
+
+// Of the two ends of a side, both from one corner: above zero where that corner lies left of the side.
+fn cross(c: Place, d: Place) -> i64
+    requires { ⌜ Far c × Far d ⌝ }
+    ensures { λ r. ⌜ r ≡ Cross c d ⌝ }
+{
+    c.x * d.y - c.y * d.x
 }
 
 // 2 where corner i turns left, and 1 where not; 3, which is never reached, where it is on another side: it sees its

@@ -1,14 +1,15 @@
 // Whether one corner sees another: 01, "Sight".
-ghost use mathlib.Core.Path.{_≡_};
-ghost use Prim.Native.Nat.{ℕ, _<_};
+ghost use Prim.Native.Nat.{_<_};
 ghost use Rattle.whole.specs.Masks.{Marks};
-ghost use Rattle.drawing.specs.Drawing.{corners, Beside, Sees};
+ghost use Rattle.drawing.specs.Drawing.{corners};
 ghost use Rattle.drawing.specs.Sight.{Limits};
 ghost use Rattle.drawing.specs.Tells.{Tells};
-ghost use Rattle.drawing.specs.Known.{Left, Open, Hides, Meets, Facing, Needs, Knows};
+ghost use Rattle.drawing.specs.Known.{Left, Open, NoneHides, Looks, Reaches, Meets, Facing, Needs, Lies, Knows};
+ghost use Rattle.drawing.specs.Parts.{TellsSight};
 use crate::corners::corner;
 use crate::corners::next;
 use crate::corners::prev;
+use crate::masks::Against;
 use crate::masks::Known;
 use crate::segment::one_side;
 use crate::segment::touch;
@@ -21,44 +22,53 @@ pub enum Met {
     Crossed,
 }
 
-// The cheapest test comes first: the corners' numbers, the two angles, and only then the sides. Inside both angles
-// the sides at i and j are clear. Of the others only those are looked at whose line has i and j strictly apart, or
-// has both on it.
+// Corner i is inside the angle at j. The cheapest test comes first: the other angle, and only then the sides. Inside
+// both angles the sides at i and j are clear; of the others a few are looked at. Of neighbours, which see each other
+// anyhow, false tells nothing.
 pub fn sees(xy: &[i32], i: usize, a: Known, j: usize, b: Known) -> bool
-    requires { ⌜ Limits (now xy) × (i < corners (now xy)) × (j < corners (now xy)) ⌝ }
+    requires { ⌜ Limits (now xy) × (i < corners (now xy)) × (j < corners (now xy)) × Facing (now xy) j i ⌝ }
     requires { ⌜ Knows (now xy) i a × Knows (now xy) j b ⌝ }
-    ensures { λ r. ⌜ Tells r (Sees (now (xy .entry)) i j) ⌝ }
+    ensures { λ r. ⌜ TellsSight (now (xy .entry)) i j r ⌝ }
 {
-    if beside(xy, i, j) {
-        return true;
-    }
-    if !angle(xy, i, a.need, j, b.left) {
+    if !angle(xy, i, a.need, j, b.sides.left) {
         return false;
     }
-    if !angle(xy, j, b.need, i, a.left) {
-        return false;
-    }
-    let sides = a.left & b.right | a.right & b.left | a.along & b.along;
+    let sides = to_look_at(xy, i, a.sides, j, b.sides);
     clear(xy, sides, i, j)
 }
 
-fn beside(xy: &[i32], i: usize, j: usize) -> bool
-    requires { ⌜ (i < corners (now xy)) × (j < corners (now xy)) ⌝ }
-    ensures { λ r. ⌜ Tells r (Beside (now (xy .entry)) i j) ⌝ }
+// The open sides are those whose line has i and j strictly apart, or has both on it. One with the two apart that
+// meets the segment ij has an end lower than the higher of them and one west of the eastern: the others are left out.
+fn to_look_at(xy: &[i32], i: usize, a: Against, j: usize, b: Against) -> u64
+    requires { ⌜ Limits (now xy) × (i < corners (now xy)) × (j < corners (now xy)) ⌝ }
+    requires { ⌜ Lies (now xy) i a × Lies (now xy) j b ⌝ }
+    ensures { λ r. ⌜ Looks (now (xy .entry)) i j r ⌝ }
 {
-    if i == j {
-        true
-    } else if next(xy, i) == j {
-        true
-    } else {
-        next(xy, j) == i
+    let p = corner(xy, i);
+    let q = corner(xy, j);
+    let low = reach(p.y, a.low, q.y, b.low);
+    let west = reach(p.x, a.west, q.x, b.west);
+    let apart = a.left & b.right | a.right & b.left;
+    let along = a.along & b.along;
+    apart & low & west | along
+}
+
+// Of the heights of two corners, and of the sides that reach below the first and below the second: those that reach
+// below the higher one, or all, where both have one height. And so for east and west.
+fn reach(p: i64, first: u64, q: i64, second: u64) -> u64
+    ensures { λ r. ⌜ Reaches p first q second r ⌝ }
+{
+    if p == q {
+        return u64::MAX;
     }
+    first | second
 }
 
 // Corner j, which lies left of the sides that `left` marks, is inside the angle at corner i: left of as many of the
 // two sides there as i needs.
 fn angle(xy: &[i32], i: usize, need: u64, j: usize, left: u64) -> bool
-    requires { ⌜ Limits (now xy) × (i < corners (now xy)) × Needs (now xy) i need × Marks (corners (now xy)) left (Left (now xy) j) ⌝ }
+    requires { ⌜ Limits (now xy) × (i < corners (now xy)) × Needs (now xy) i need ⌝ }
+    requires { ⌜ Marks (corners (now xy)) left (Left (now xy) j) ⌝ }
     ensures { λ r. ⌜ Tells r (Facing (now (xy .entry)) i j) ⌝ }
 {
     let h = prev(xy, i);
@@ -67,8 +77,8 @@ fn angle(xy: &[i32], i: usize, need: u64, j: usize, left: u64) -> bool
 
 // No open side hides j from i: from one mark to the next.
 fn clear(xy: &[i32], sides: u64, i: usize, j: usize) -> bool
-    requires { ⌜ Limits (now xy) × (i < corners (now xy)) × (j < corners (now xy)) × Marks (corners (now xy)) sides (Open (now xy) i j) ⌝ }
-    ensures { λ r. ⌜ Tells r ((k : ℕ) → k < corners (now (xy .entry)) → Open (now (xy .entry)) i j k → ¬ Hides (now (xy .entry)) i j k) ⌝ }
+    requires { ⌜ Limits (now xy) × (i < corners (now xy)) × (j < corners (now xy)) × Looks (now xy) i j sides ⌝ }
+    ensures { λ r. ⌜ Tells r (NoneHides (now (xy .entry)) i j) ⌝ }
 {
     let mut rest = sides;
     while rest != 0 {
@@ -90,7 +100,8 @@ fn clear(xy: &[i32], sides: u64, i: usize, j: usize) -> bool
 
 // How the segment ij meets the open side k. That i and j are not on one side of its line is known.
 fn meet(xy: &[i32], i: usize, j: usize, k: usize) -> Met
-    requires { ⌜ Limits (now xy) × (i < corners (now xy)) × (j < corners (now xy)) × (k < corners (now xy)) × Open (now xy) i j k ⌝ }
+    requires { ⌜ Limits (now xy) × (i < corners (now xy)) × (j < corners (now xy)) × (k < corners (now xy)) ⌝ }
+    requires { ⌜ Open (now xy) i j k ⌝ }
     ensures { λ r. ⌜ Meets (now (xy .entry)) i j k r ⌝ }
 {
     let m = next(xy, k);

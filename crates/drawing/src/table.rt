@@ -1,21 +1,25 @@
-// The cells of sight: what each corner knows of the sides is written down first; then pairs i <= j are decided, and
-// each fills two cells, since sight is mutual.
+// The cells of sight: what each corner knows of the sides is written down first; then those pairs i < j are decided in
+// which i is inside the angle at j, and each that sees each other fills two cells, since sight is mutual.
 ghost use mathlib.Core.Path.{_≡_};
 ghost use Prim.Native.Nat.{_<_, _≤_};
-ghost use lib.ListN.{length, set};
-ghost use Rattle.limits.specs.Limits.{most-corners, all-cells, place};
+ghost use lib.ListN.{length};
+ghost use Rattle.limits.specs.Limits.{most-corners, all-cells};
 ghost use Rattle.drawing.specs.Drawing.{corners};
 ghost use Rattle.drawing.specs.Sight.{Limits, Seen};
-ghost use Rattle.drawing.specs.Parts.{RowFilled};
-ghost use Rattle.drawing.specs.Known.{all-words, word, Knows, AllKnown, Learnt};
+ghost use Rattle.drawing.specs.Parts.{None, Marked, RowBlank, NeighboursAdded, RowAdded, Ends, Decided, both};
+ghost use Rattle.drawing.specs.Known.{all-words, word, Facing, FacedBy, Knows, Learnt, Remembered};
+use crate::corners::next;
+use crate::faced::angles;
+use crate::faced::faced;
+use crate::masks::Against;
 use crate::masks::Known;
 use crate::masks::know;
 use crate::seeing::sees;
 use limits::MOST_CORNERS;
 use limits::ROW;
 
-// The words of all corners, four for each.
-const ALL_WORDS: usize = 4 * MOST_CORNERS;
+// The words of all corners, six for each.
+const ALL_WORDS: usize = 6 * MOST_CORNERS;
 
 pub fn fill(xy: &[i32], cells: &mut [u8])
     requires { ⌜ Limits (now xy) × (all-cells ≤ length (now cells)) ⌝ }
@@ -30,13 +34,14 @@ fn fill_by(xy: &[i32], words: &mut [u64], cells: &mut [u8])
     ensures { λ _. ⌜ Seen (now (xy .entry)) (now (cells .entry)) (now (cells .exit)) ⌝ }
 {
     learn(xy, words);
+    blank(xy, cells);
+    neighbours(xy, cells);
     rows(xy, words, cells);
 }
 
 fn learn(xy: &[i32], words: &mut [u64])
     requires { ⌜ Limits (now xy) × (all-words ≤ length (now words)) ⌝ }
-    ensures { λ _. ⌜ AllKnown (now (xy .entry)) (corners (now (xy .entry))) (now (words .exit)) ⌝ }
-    ensures { λ _. ⌜ length (now (words .exit)) ≡ length (now (words .entry)) ⌝ }
+    ensures { λ _. ⌜ Remembered (now (xy .entry)) (now (words .exit)) ⌝ }
 {
     for i in 0..xy.len() / 2 {
         learn_one(xy, words, i);
@@ -48,52 +53,109 @@ fn learn_one(xy: &[i32], words: &mut [u64], i: usize)
     ensures { λ _. ⌜ Learnt (now (xy .entry)) i (now (words .entry)) (now (words .exit)) ⌝ }
 {
     let known = know(xy, i);
-    words[4 * i] = known.left;
-    words[4 * i + 1] = known.right;
-    words[4 * i + 2] = known.along;
-    words[4 * i + 3] = known.need;
+    words[6 * i] = known.sides.left;
+    words[6 * i + 1] = known.sides.right;
+    words[6 * i + 2] = known.sides.along;
+    words[6 * i + 3] = known.sides.low;
+    words[6 * i + 4] = known.sides.west;
+    words[6 * i + 5] = known.need;
 }
 
 fn recall(words: &[u64], i: usize) -> Known
     requires { ⌜ (all-words ≤ length (now words)) × (i < most-corners) ⌝ }
     ensures { λ r. ⌜ r ≡ word (now (words .entry)) i ⌝ }
 {
+    let sides = Against {
+        left: words[6 * i],
+        right: words[6 * i + 1],
+        along: words[6 * i + 2],
+        low: words[6 * i + 3],
+        west: words[6 * i + 4],
+    };
     Known {
-        left: words[4 * i],
-        right: words[4 * i + 1],
-        along: words[4 * i + 2],
-        need: words[4 * i + 3],
+        sides: sides,
+        need: words[6 * i + 5],
+    }
+}
+
+// No corner sees another yet.
+fn blank(xy: &[i32], cells: &mut [u8])
+    requires { ⌜ Limits (now xy) × (all-cells ≤ length (now cells)) ⌝ }
+    ensures { λ _. ⌜ Marked (now (xy .entry)) None (now (cells .entry)) (now (cells .exit)) ⌝ }
+{
+    let n = xy.len() / 2;
+    for i in 0..n {
+        blank_row(cells, i, n);
+    }
+}
+
+fn blank_row(cells: &mut [u8], i: usize, n: usize)
+    requires { ⌜ (all-cells ≤ length (now cells)) × (i < most-corners) × (n ≤ most-corners) ⌝ }
+    ensures { λ _. ⌜ RowBlank i n (now (cells .entry)) (now (cells .exit)) ⌝ }
+{
+    for j in 0..n {
+        cells[i * ROW + j] = 0;
+    }
+}
+
+// Each corner sees itself and its neighbours.
+fn neighbours(xy: &[i32], cells: &mut [u8])
+    requires { ⌜ Limits (now xy) × (all-cells ≤ length (now cells)) ⌝ }
+    ensures { λ _. ⌜ NeighboursAdded (now (xy .entry)) (now (cells .entry)) (now (cells .exit)) ⌝ }
+{
+    for i in 0..xy.len() / 2 {
+        put(cells, i, i);
+        let m = next(xy, i);
+        put(cells, i, m);
     }
 }
 
 fn rows(xy: &[i32], words: &[u64], cells: &mut [u8])
-    requires { ⌜ Limits (now xy) × (all-words ≤ length (now words)) × AllKnown (now xy) (corners (now xy)) (now words) ⌝ }
-    requires { ⌜ all-cells ≤ length (now cells) ⌝ }
-    ensures { λ _. ⌜ Seen (now (xy .entry)) (now (cells .entry)) (now (cells .exit)) ⌝ }
+    requires { ⌜ Limits (now xy) × Remembered (now xy) (now words) × (all-cells ≤ length (now cells)) ⌝ }
+    ensures { λ _. ⌜ Ends (now (xy .entry)) (now (cells .entry)) (now (cells .exit)) ⌝ }
 {
-    for i in 0..xy.len() / 2 {
-        row(xy, words, cells, i);
+    let n = xy.len() / 2;
+    let at = angles(words, n);
+    for i in 0..n {
+        let a = recall(words, i);
+        let f = faced(a.sides.left, at, n);
+        row(xy, words, f, cells, i);
     }
 }
 
-// The pairs of corner i with itself and the corners after it.
-fn row(xy: &[i32], words: &[u64], cells: &mut [u8], i: usize)
-    requires { ⌜ Limits (now xy) × (all-words ≤ length (now words)) × AllKnown (now xy) (corners (now xy)) (now words) ⌝ }
-    requires { ⌜ (all-cells ≤ length (now cells)) × (i < corners (now xy)) ⌝ }
-    ensures { λ _. ⌜ RowFilled (now (xy .entry)) i (corners (now (xy .entry))) (now (cells .entry)) (now (cells .exit)) ⌝ }
+// The pairs of corner i with those after it that have i inside the angle.
+fn row(xy: &[i32], words: &[u64], f: u64, cells: &mut [u8], i: usize)
+    requires { ⌜ Limits (now xy) × Remembered (now xy) (now words) × (all-cells ≤ length (now cells)) ⌝ }
+    requires { ⌜ (i < corners (now xy)) × FacedBy (now xy) i f ⌝ }
+    ensures { λ _. ⌜ RowAdded (now (xy .entry)) i (now (cells .entry)) (now (cells .exit)) ⌝ }
 {
     let a = recall(words, i);
-    for j in i..xy.len() / 2 {
+    let mut rest = f >> i;
+    while rest != 0 {
+        let j = i + u64::trailing_zeros(rest) as usize;
         let b = recall(words, j);
-        let seen = sees(xy, i, a, j, b);
-        put(cells, i, j, seen as u8);
+        decide(xy, cells, i, a, j, b);
+        rest = rest & (rest - 1);
     }
 }
 
-fn put(cells: &mut [u8], i: usize, j: usize, v: u8)
-    requires { ⌜ (all-cells ≤ length (now cells)) × (i < most-corners) × (j < most-corners) ⌝ }
-    ensures { λ _. ⌜ now (cells .exit) ≡ set (set (now (cells .entry)) (place i j) v) (place j i) v ⌝ }
+// A pair that sees each other is written; neighbours are written already, and the others are 0.
+fn decide(xy: &[i32], cells: &mut [u8], i: usize, a: Known, j: usize, b: Known)
+    requires { ⌜ Limits (now xy) × (all-cells ≤ length (now cells)) ⌝ }
+    requires { ⌜ (i < corners (now xy)) × (j < corners (now xy)) × Facing (now xy) j i ⌝ }
+    requires { ⌜ Knows (now xy) i a × Knows (now xy) j b ⌝ }
+    ensures { λ _. ⌜ Decided (now (xy .entry)) i j (now (cells .entry)) (now (cells .exit)) ⌝ }
 {
-    cells[i * ROW + j] = v;
-    cells[j * ROW + i] = v;
+    if !sees(xy, i, a, j, b) {
+        return;
+    }
+    put(cells, i, j);
+}
+
+fn put(cells: &mut [u8], i: usize, j: usize)
+    requires { ⌜ (all-cells ≤ length (now cells)) × (i < most-corners) × (j < most-corners) ⌝ }
+    ensures { λ _. ⌜ now (cells .exit) ≡ both (now (cells .entry)) i j ⌝ }
+{
+    cells[i * ROW + j] = 1;
+    cells[j * ROW + i] = 1;
 }

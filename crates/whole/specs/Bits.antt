@@ -3,13 +3,13 @@
 -- k + 1 of m is digit k of m / 2.
 use mathlib.Core.Path.{_≡_, refl, sym, ap, _∙_}
 use mathlib.Core.Logic.{by-cases}
-use Prim.Native.Nat.{ℕ, zero, suc, _+_, _*_, _-_, _/_, _%_, _^_, _<_, min, max}
+use Prim.Native.Nat.{ℕ, zero, suc, _+_, _*_, _-_, _/_, _%_, _^_, _≤_, _<_, min, max}
 use native.Mathlib.Nat.{pow-suc}
 use native.Mathlib.Decide.{decLt}
 use native.Mathlib.Omega.{arith}
 use lib.Bits.{bitAnd, bitOr, bitXor, differ, and-step, or-step, xor-step}
 use lib.Count.{trailingZeros, under}
-use lib.Pow.{shr-shr, pow-mono}
+use lib.Pow.{shr-shr, pow-mono, pow-pos}
 
 abbrev pub bit : ℕ → ℕ → ℕ
 bit m zero = m % 2
@@ -73,7 +73,8 @@ bit-only zero zero n = absurd (n refl)
 bit-only zero (suc k) n = bit-nought k
 bit-only (suc i) zero n = omega (arith, pow-suc 2 i)
 bit-only (suc i) (suc k) n =
-    let e : 2 ^ suc i / 2 ≡ 2 ^ i = omega (arith, pow-suc 2 i) in ap (λ x. bit x k) e ∙ bit-only i k (λ z. n (ap suc z))
+    let e : 2 ^ suc i / 2 ≡ 2 ^ i = omega (arith, pow-suc 2 i) in
+    ap (λ x. bit x k) e ∙ bit-only i k (λ z. n (ap suc z))
 
 -- as a word has it
 pub shifted-one : (k : ℕ) → k < 64 → 1 * 2 ^ k % 2 ^ 64 ≡ 2 ^ k
@@ -84,6 +85,42 @@ bit-shifted m zero = omega arith
 bit-shifted m (suc k) =
     let e : suc k ≡ 1 + k = omega arith in
     ap (λ x. m / 2 ^ x % 2) e ∙ ap (λ x. x % 2) (sym (shr-shr m 1 k)) ∙ bit-shifted (m / 2) k
+
+pub bit-from : (m i k : ℕ) → bit (m / 2 ^ i) k ≡ bit m (i + k)
+bit-from m i k = sym (bit-shifted (m / 2 ^ i) k) ∙ ap (λ x. x % 2) (shr-shr m i k) ∙ bit-shifted m (i + k)
+
+pub shifted-below : (m i : ℕ) → m / 2 ^ i ≤ m
+shifted-below m zero = omega arith
+shifted-below m (suc i) =
+    let e : suc i ≡ 1 + i = omega arith in
+    let z = ap (λ x. m / 2 ^ x) e ∙ sym (shr-shr m 1 i) in
+    omega (arith, z, shifted-below (m / 2) i)
+
+-- ---- the highest digit
+pub bit-above : (m k : ℕ) → m < 2 ^ k → bit m k ≡ 0
+bit-above m zero h = omega arith
+bit-above m (suc k) h = bit-above (m / 2) k (omega (arith, pow-suc 2 k))
+
+pub bit-highest : (m k : ℕ) → 2 ^ k ≤ m → m < 2 ^ suc k → bit m k ≡ 1
+bit-highest m zero h l = omega arith
+bit-highest m (suc k) h l =
+    bit-highest (m / 2) k (omega (arith, pow-suc 2 k)) (omega (arith, pow-suc 2 k, pow-suc 2 (suc k)))
+
+-- taken away, the digits below it stay
+pub bit-lower : (m t k : ℕ) → 2 ^ t ≤ m → k < t → bit (m - 2 ^ t) k ≡ bit m k
+bit-lower m zero k h l = absurd (omega arith)
+bit-lower m (suc t) zero h l = omega (arith, pow-suc 2 t)
+bit-lower m (suc t) (suc k) h l =
+    let e : (m - 2 ^ suc t) / 2 ≡ m / 2 - 2 ^ t = omega (arith, pow-suc 2 t) in
+    ap (λ x. bit x k) e ∙ bit-lower (m / 2) t k (omega (arith, pow-suc 2 t)) (omega arith)
+
+-- ---- a number of t digits that are all 1
+pub bit-full : (t k : ℕ) → k < t → bit (2 ^ t - 1) k ≡ 1
+bit-full zero k h = absurd (omega arith)
+bit-full (suc t) zero h = omega (arith, pow-suc 2 t, pow-pos t)
+bit-full (suc t) (suc k) h =
+    let e : (2 ^ suc t - 1) / 2 ≡ 2 ^ t - 1 = omega (arith, pow-suc 2 t, pow-pos t) in
+    ap (λ x. bit x k) e ∙ bit-full t k (omega arith)
 
 -- ---- the lowest 1 of a number of w digits
 pub lowest-is : (w m : ℕ) → m < 2 ^ w → 0 < m → bit m (trailingZeros w m) ≡ 1
@@ -123,7 +160,8 @@ less-above zero m k l h t = absurd (omega arith)
 less-above (suc w) m k l h t = go (m % 2) refl k t (λ j. less-above w (m / 2) j (omega (arith, pow-suc 2 w)))
   where
     go : (r : ℕ) → m % 2 ≡ r → (k : ℕ) → under r (trailingZeros w (m / 2)) < k →
-        ((j : ℕ) → 0 < m / 2 → trailingZeros w (m / 2) < j → bit (m / 2 - 1) j ≡ bit (m / 2) j) → bit (m - 1) k ≡ bit m k
+        ((j : ℕ) → 0 < m / 2 → trailingZeros w (m / 2) < j → bit (m / 2 - 1) j ≡ bit (m / 2) j) →
+        bit (m - 1) k ≡ bit m k
     go r e zero t f = absurd (omega arith)
     go zero e (suc k) t f =
         let z : (m - 1) / 2 ≡ m / 2 - 1 = omega arith in ap (λ x. bit x k) z ∙ f k (omega arith) (omega arith)

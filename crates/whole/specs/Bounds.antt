@@ -1,6 +1,6 @@
 -- Machine numbers within bounds. `Val z x B`: the value z that the machine holds is the whole number x, and |x| ≤ B.
--- A need `SFits w z` is `fit tt` of z's tree of `par`, `loc`, `lit`, `plus`, `less`, `times`, where the bound that the tree
--- computes is below half of w's range.
+-- A need `SFits w z` is `fit tt` of z's tree of `par`, `loc`, `lit`, `plus`, `less`, `times`, where the bound that the
+-- tree computes is below half of w's range.
 use mathlib.Core.Path.{_≡_, refl, sym, _∙_, ap}
 use mathlib.Core.Bool.{Bool, true, false, cond}
 use mathlib.Core.Logic.{_⊎_, inl, inr}
@@ -51,7 +51,8 @@ pub record Val (z x : ℤ) (B : ℕ) : Type 0 where
   pub below : natAbs x ≤ B
 
 pub fit : {w : Width} {z x : ℤ} {B : ℕ} → T (ltb B (2 ^ hbits w)) → Val z x B → SFits w z
-fit {w} {z} {x} {B} t h = rw (h .is) (record { sfits = lt-of-le-of-lt (le-trans (mag≤abs x) (h .below)) (ltb→lt B (2 ^ hbits w) t) })
+fit {w} {z} {x} {B} t h =
+    rw (h .is) (record { sfits = lt-of-le-of-lt (le-trans (mag≤abs x) (h .below)) (ltb→lt B (2 ^ hbits w) t) })
 
 -- a parameter, read back
 pub par : {w : Width} {x : ℤ} {B : ℕ} → SFits w x → natAbs x ≤ B → Val (toZ w (ofZ w x)) x B
@@ -72,7 +73,10 @@ module _ {z x u y : ℤ} {A B : ℕ} (h : Val z x A) (k : Val u y B) where
   less = record { is = rw (h .is, k .is); below = omega (arith, abs-add x (negℤ y), abs-neg y, h .below, k .below) }
 
   pub times : Val (z *ℤ u) (x *ℤ y) (A * B)
-  times = record { is = rw (h .is, k .is); below = le-trans (le-of-eq (abs-mul x y)) (mul-le-mul (h .below) (k .below)) }
+  times = record {
+    is = rw (h .is, k .is);
+    below = le-trans (le-of-eq (abs-mul x y)) (mul-le-mul (h .below) (k .below));
+  }
 
 -- z's own bound, as a callee asks it
 pub bound : {z x : ℤ} {B : ℕ} → Val z x B → natAbs z ≤ B
@@ -113,7 +117,8 @@ module _ (w : Width) {x y : ℤ} where
   pub eq-is : x ≡ y → eqb (ofZ w x) (ofZ w y) ≡ true
   eq-is q = eq-eqb (ofZ w x) (ofZ w y) (ap (ofZ w) q)
 
--- ---- uses: an i32 fits an i64, and so does the product of two differences of numbers up to a million; `x < y` of two i64
+-- ---- uses: an i32 fits an i64, and so does the product of two differences of numbers up to a million; `x < y` of two
+-- i64
 widened : (x : ℤ) → SFits w32 x → SFits w64 (toZ w32 (ofZ w32 x))
 widened x f = fit tt (par f (natAbs-le x (f .sfits)))
 

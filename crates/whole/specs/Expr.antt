@@ -1,7 +1,7 @@
--- Expressions over whole numbers, and their normal form: a list of terms, each a coefficient and a monomial (the numbers of its
--- variables, rising), the terms rising by monomial and no coefficient zero. That an expression has the value of its normal form
--- (`Normal`) holds whatever the order of the terms: the order only makes equal expressions meet in one form.
--- All that computes is `abbrev`, so that a use of the solver needs no `unfolding` line.
+-- Expressions over whole numbers, and their normal form: a list of terms, each a coefficient and a monomial (the
+-- numbers of its variables, rising), the terms rising by monomial and no coefficient zero. That an expression has the
+-- value of its normal form (`Normal`) holds whatever the order of the terms: the order only makes equal expressions
+-- meet in one form. All that computes is `abbrev`, so that a use of the solver needs no `unfolding` line.
 use mathlib.Core.List.{List, [], _∷_}
 use Prim.Native.Nat.{ℕ, zero, suc, compare, Ordering, Ordering·lt, Ordering·eq, Ordering·gt}
 use lib.IntN.{ℤ, pos, negsuc, negℤ, _+ℤ_, _-ℤ_, _*ℤ_}

@@ -53,7 +53,8 @@ neg-unique : (x y : ℤ) → x +ℤ y ≡ pos zero → y ≡ negℤ x
 neg-unique x y h = sym (+ℤ-negℤ-cancel y x) ∙ ap (λ z. z -ℤ x) (+ℤ-comm y x ∙ h) ∙ +ℤ-idl (negℤ x)
 
 pub *ℤ-negl : (a b : ℤ) → negℤ a *ℤ b ≡ negℤ (a *ℤ b)
-*ℤ-negl a b = neg-unique (a *ℤ b) (negℤ a *ℤ b) (sym (*ℤ-distr a (negℤ a) b) ∙ ap (λ z. z *ℤ b) (+ℤ-invr a) ∙ zero-*ℤ b)
+*ℤ-negl a b =
+    neg-unique (a *ℤ b) (negℤ a *ℤ b) (sym (*ℤ-distr a (negℤ a) b) ∙ ap (λ z. z *ℤ b) (+ℤ-invr a) ∙ zero-*ℤ b)
 
 -- ---- associativity, by steps of one in the first factor
 abbrev Regroup : ℤ → ℤ → ℤ → Type 0

@@ -6,9 +6,11 @@ pub mod Laws
 pub mod Expr
 -- an expression has the value of its normal form
 pub mod Normal
--- the solver: an identity in one line, `ring ρ left right refl`; `ring1`, `ring2` from known equations; `by-ring` inside a statement
+-- the solver: an identity in one line, `ring ρ left right refl`; `ring1`, `ring2` from known equations; `by-ring`
+-- inside a statement
 pub mod Ring
--- an order is the sign of a difference; signs of sums and products; total, transitive, antisymmetric; cancelling a positive factor
+-- an order is the sign of a difference; signs of sums and products; total, transitive, antisymmetric; cancelling a
+-- positive factor
 pub mod Order
 -- a machine value is the number meant and fits its width; what a comparison of two of them tells
 pub mod Bounds

@@ -1,6 +1,6 @@
 -- A mask of n digits tells of a statement about the numbers below n: digit k is 1, a mark, where it holds of k, and 0
--- where not. A mask is made from the last number down, one digit put below the others (`Made`), and read one mark after
--- the other (`Scan`).
+-- where not. A mask is made from the last number down, one digit put below the others (`Made`), and read one mark
+-- after the other (`Scan`).
 use mathlib.Core.Path.{_≡_, sym, ap, _∙_, subst}
 use mathlib.Core.Logic.{by-cases}
 use Prim.Native.Nat.{ℕ, zero, suc, _+_, _*_, _-_, _^_, _≤_, _<_}
@@ -24,10 +24,12 @@ pub record Marks (n m : ℕ) (P : ℕ → Type 0) : Type 0 where
   pub no : (k : ℕ) → k < n → bit m k ≡ 0 → ¬ P k
 
 pub marked : {n m : ℕ} {P : ℕ → Type 0} → Marks n m P → (k : ℕ) → k < n → P k → bit m k ≡ 1
-marked {n} {m} h k l p = by-cases (ℕ-discrete (bit m k) 1) (λ e. e) (λ e. absurd (h .no k l (omega (arith, bit-small m k, e)) p))
+marked {n} {m} h k l p =
+    by-cases (ℕ-discrete (bit m k) 1) (λ e. e) (λ e. absurd (h .no k l (omega (arith, bit-small m k, e)) p))
 
 pub unmarked : {n m : ℕ} {P : ℕ → Type 0} → Marks n m P → (k : ℕ) → ¬ ((k < n) × P k) → bit m k ≡ 0
-unmarked {n} {m} h k off = by-cases (ℕ-discrete (bit m k) 1) (λ e. absurd (off (h .yes k e))) (λ e. omega (arith, bit-small m k, e))
+unmarked {n} {m} h k off =
+    by-cases (ℕ-discrete (bit m k) 1) (λ e. absurd (off (h .yes k e))) (λ e. omega (arith, bit-small m k, e))
 
 -- ---- made: after t steps the mask has t digits, and they tell of the last t numbers
 pub record Made (n t m : ℕ) (P : ℕ → Type 0) : Type 0 where
@@ -60,11 +62,13 @@ module _ {n : ℕ} {P : ℕ → Type 0} where
         yes : (k : ℕ) → bit (m * 2 + b) k ≡ 1 → (k < t + 1) × P (f + k)
         yes zero e = (omega arith, subst P (sym first) (d .one (sym (push-low m b (d .small)) ∙ e)))
         yes (suc k) e =
-            let y = s .marks .yes k (sym (push-high m b (d .small) k) ∙ e) in (omega (arith, y .0), subst P (later k) (y .1))
+            let y = s .marks .yes k (sym (push-high m b (d .small) k) ∙ e) in
+            (omega (arith, y .0), subst P (later k) (y .1))
 
         no : (k : ℕ) → k < t + 1 → bit (m * 2 + b) k ≡ 0 → ¬ P (f + k)
         no zero h e p = d .nought (sym (push-low m b (d .small)) ∙ e) (subst P first p)
-        no (suc k) h e p = s .marks .no k (omega arith) (sym (push-high m b (d .small) k) ∙ e) (subst P (sym (later k)) p)
+        no (suc k) h e p =
+            s .marks .no k (omega arith) (sym (push-high m b (d .small) k) ∙ e) (subst P (sym (later k)) p)
 
     -- a word has room for the digit
     pub made-room : n ≤ 64 → b < 2 → m * 2 + b < 2 ^ 64
@@ -114,7 +118,8 @@ module _ {m : ℕ} {Q : ℕ → Type 0} where
       scan-more q = record { ahead = ahead; passed = passed; fits = omega (arith, scan-less, s .fits) }
         where
           ahead : (k : ℕ) → bit (others rest) k ≡ 1 → bit m k ≡ 1
-          ahead k e = s .ahead k (omega (arith, e, bit-and rest (rest - 1) k, bit-small rest k, bit-small (rest - 1) k))
+          ahead k e =
+              s .ahead k (omega (arith, e, bit-and rest (rest - 1) k, bit-small rest k, bit-small (rest - 1) k))
 
           passed : (k : ℕ) → bit m k ≡ 1 → bit (others rest) k ≡ 0 → Q k
           passed k e z =

@@ -97,7 +97,8 @@ module _ (ρ : List ℤ) where
         ≡ (c *ℤ mono m +ℤ value p) +ℤ (d *ℤ mono n +ℤ value q)
     unfolding value
     pick-ok Ordering·lt g e h =
-        ap (λ z. c *ℤ mono m +ℤ z) (add-ok (term d n q)) ∙ sym (+ℤ-assoc (c *ℤ mono m) (value p) (d *ℤ mono n +ℤ value q))
+        ap (λ z. c *ℤ mono m +ℤ z) (add-ok (term d n q)) ∙
+        sym (+ℤ-assoc (c *ℤ mono m) (value p) (d *ℤ mono n +ℤ value q))
     pick-ok Ordering·eq g e h =
         tidy-ok (c +ℤ d) n (add q)
         ∙ ap (λ z. (c +ℤ d) *ℤ mono n +ℤ z) (add-ok q)
@@ -150,12 +151,14 @@ module _ (ρ : List ℤ) where
   norm-ok (v k) = sym (+ℤ-idr (pos 1 *ℤ (at ρ k *ℤ pos 1)) ∙ one-* (at ρ k *ℤ pos 1) ∙ *-one (at ρ k))
   norm-ok (con c) = sym (tidy-ok c [] nil ∙ +ℤ-idr (c *ℤ pos 1) ∙ *-one c)
   norm-ok (a :+ b) =
-      ap (λ z. z +ℤ eval ρ b) (norm-ok a) ∙ ap (λ z. value (norm a) +ℤ z) (norm-ok b) ∙ sym (poly-add-ok (norm a) (norm b))
+      ap (λ z. z +ℤ eval ρ b) (norm-ok a) ∙ ap (λ z. value (norm a) +ℤ z) (norm-ok b) ∙
+      sym (poly-add-ok (norm a) (norm b))
   norm-ok (a :- b) =
       ap (λ z. z -ℤ eval ρ b) (norm-ok a)
       ∙ ap (λ z. value (norm a) -ℤ z) (norm-ok b)
       ∙ ap (λ z. value (norm a) +ℤ z) (sym (poly-neg-ok (norm b)))
       ∙ sym (poly-add-ok (norm a) (poly-neg (norm b)))
   norm-ok (a :* b) =
-      ap (λ z. z *ℤ eval ρ b) (norm-ok a) ∙ ap (λ z. value (norm a) *ℤ z) (norm-ok b) ∙ sym (poly-mul-ok (norm a) (norm b))
+      ap (λ z. z *ℤ eval ρ b) (norm-ok a) ∙ ap (λ z. value (norm a) *ℤ z) (norm-ok b) ∙
+      sym (poly-mul-ok (norm a) (norm b))
   norm-ok (neg a) = ap negℤ (norm-ok a) ∙ sym (poly-neg-ok (norm a))

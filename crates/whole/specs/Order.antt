@@ -1,5 +1,5 @@
--- The order of whole numbers. An order is the sign of a difference (`le-sub`, `sub-le`, `lt-sub`, `sub-lt`), and the solver rewrites
--- differences: to prove a ≤ b, write b - a as a sum of products of numbers that are not negative.
+-- The order of whole numbers. An order is the sign of a difference (`le-sub`, `sub-le`, `lt-sub`, `sub-lt`), and the
+-- solver rewrites differences: to prove a ≤ b, write b - a as a sum of products of numbers that are not negative.
 use mathlib.Core.Path.{_≡_, refl, sym, _∙_, ap, subst}
 use mathlib.Core.Bool.{Bool, true, false, not}
 use mathlib.Core.Logic.{_⊎_, inl, inr}
@@ -101,7 +101,8 @@ pred-positive {x} h = ltZ-yes (subst T (sym (positive-is x)) (h .le))
 
 pub positive-nonneg : {x : ℤ} → Positive x → Nonneg x
 positive-nonneg {x} h =
-    by-ring (x ∷ []) Nonneg (v 0 :- con (pos 1) :+ con (pos 1)) (v 0) refl (nonneg-add (positive-pred h) (nonneg-pos 1))
+    by-ring (x ∷ []) Nonneg (v 0 :- con (pos 1) :+ con (pos 1)) (v 0) refl
+    (nonneg-add (positive-pred h) (nonneg-pos 1))
 
 pub positive-add : {x y : ℤ} → Positive x → Nonneg y → Positive (x +ℤ y)
 positive-add {x} {y} h k =
@@ -112,7 +113,8 @@ positive-add {x} {y} h k =
 pub positive-mul : {x y : ℤ} → Positive x → Positive y → Positive (x *ℤ y)
 positive-mul {x} {y} h k =
     pred-positive (by-ring (x ∷ y ∷ []) Nonneg
-    ((v 0 :- con (pos 1)) :* (v 1 :- con (pos 1)) :+ (v 0 :- con (pos 1)) :+ (v 1 :- con (pos 1))) (v 0 :* v 1 :- con (pos 1)) refl
+    ((v 0 :- con (pos 1)) :* (v 1 :- con (pos 1)) :+ (v 0 :- con (pos 1)) :+ (v 1 :- con (pos 1)))
+    (v 0 :* v 1 :- con (pos 1)) refl
     (nonneg-add (nonneg-add (nonneg-mul (positive-pred h) (positive-pred k)) (positive-pred h)) (positive-pred k)))
 
 pub data Sign (z : ℤ) : Type 0 where
@@ -130,7 +132,8 @@ below {z} h = sub-lt (by-ring (z ∷ []) Positive (neg (v 0)) (con (pos 0) :- v 
 
 -- not both z > 0 and -z ≥ 0
 pub positive-not : {X : Type 0} {z : ℤ} → Positive z → Nonneg (negℤ z) → X
-positive-not {z} h k = absurd (<ℤ-irrefl (by-ring (z ∷ []) Positive (v 0 :+ neg (v 0)) (con (pos 0)) refl (positive-add h k)))
+positive-not {z} h k =
+    absurd (<ℤ-irrefl (by-ring (z ∷ []) Positive (v 0 :+ neg (v 0)) (con (pos 0)) refl (positive-add h k)))
 
 pub nonneg-zero : {z : ℤ} → Nonneg z → Nonneg (negℤ z) → z ≡ pos 0
 nonneg-zero {z} h k = go (sign z)
@@ -147,16 +150,19 @@ square-nonneg z = go (sign z)
     go : Sign z → Nonneg (z *ℤ z)
     go (plus p) = positive-nonneg (positive-mul p p)
     go (nought e) = subst (λ y. Nonneg (y *ℤ y)) (sym e) (nonneg-pos 0)
-    go (minus p) = by-ring (z ∷ []) Nonneg (neg (v 0) :* neg (v 0)) (v 0 :* v 0) refl (positive-nonneg (positive-mul p p))
+    go (minus p) =
+        by-ring (z ∷ []) Nonneg (neg (v 0) :* neg (v 0)) (v 0 :* v 0) refl (positive-nonneg (positive-mul p p))
 
 -- ---- the order's laws
 pub ≤ℤ-trans : {a b c : ℤ} → a ≤ℤ b → b ≤ℤ c → a ≤ℤ c
 ≤ℤ-trans {a} {b} {c} h k =
-    sub-le (by-ring (a ∷ b ∷ c ∷ []) Nonneg (v 1 :- v 0 :+ (v 2 :- v 1)) (v 2 :- v 0) refl (nonneg-add (le-sub h) (le-sub k)))
+    sub-le (by-ring (a ∷ b ∷ c ∷ []) Nonneg (v 1 :- v 0 :+ (v 2 :- v 1)) (v 2 :- v 0) refl
+    (nonneg-add (le-sub h) (le-sub k)))
 
 pub ≤ℤ-<ℤ-trans : {a b c : ℤ} → a ≤ℤ b → b <ℤ c → a <ℤ c
 ≤ℤ-<ℤ-trans {a} {b} {c} h k =
-    sub-lt (by-ring (a ∷ b ∷ c ∷ []) Positive (v 2 :- v 1 :+ (v 1 :- v 0)) (v 2 :- v 0) refl (positive-add (lt-sub k) (le-sub h)))
+    sub-lt (by-ring (a ∷ b ∷ c ∷ []) Positive (v 2 :- v 1 :+ (v 1 :- v 0)) (v 2 :- v 0) refl
+    (positive-add (lt-sub k) (le-sub h)))
 
 pub <ℤ-le : {a b : ℤ} → a <ℤ b → a ≤ℤ b
 <ℤ-le h = sub-le (positive-nonneg (lt-sub h))
@@ -170,7 +176,8 @@ pub ≤ℤ-total : (a b : ℤ) → (a ≤ℤ b) ⊎ (b <ℤ a)
 
 pub ≤ℤ-antisym : {a b : ℤ} → a ≤ℤ b → b ≤ℤ a → a ≡ b
 ≤ℤ-antisym {a} {b} h k =
-    let d : b -ℤ a ≡ pos 0 = nonneg-zero (le-sub h) (by-ring (a ∷ b ∷ []) Nonneg (v 0 :- v 1) (neg (v 1 :- v 0)) refl (le-sub k)) in
+    let d : b -ℤ a ≡ pos 0 =
+    nonneg-zero (le-sub h) (by-ring (a ∷ b ∷ []) Nonneg (v 0 :- v 1) (neg (v 1 :- v 0)) refl (le-sub k)) in
     ring (a ∷ b ∷ []) (v 0) (v 1 :- (v 1 :- v 0)) refl ∙ ap (λ z. b -ℤ z) d ∙ +ℤ-idr b
 
 pub +ℤ-mono : {a b c d : ℤ} → a ≤ℤ b → c ≤ℤ d → (a +ℤ c) ≤ℤ (b +ℤ d)
@@ -180,7 +187,8 @@ pub +ℤ-mono : {a b c d : ℤ} → a ≤ℤ b → c ≤ℤ d → (a +ℤ c) ≤
 
 pub *ℤ-mono : {k a b : ℤ} → Nonneg k → a ≤ℤ b → (k *ℤ a) ≤ℤ (k *ℤ b)
 *ℤ-mono {k} {a} {b} n h =
-    sub-le (by-ring (k ∷ a ∷ b ∷ []) Nonneg (v 0 :* (v 2 :- v 1)) (v 0 :* v 2 :- v 0 :* v 1) refl (nonneg-mul n (le-sub h)))
+    sub-le (by-ring (k ∷ a ∷ b ∷ []) Nonneg (v 0 :* (v 2 :- v 1)) (v 0 :* v 2 :- v 0 :* v 1) refl
+    (nonneg-mul n (le-sub h)))
 
 -- where the sum of two squares is not above zero, both numbers are zero
 square-zero : (x y : ℤ) → (x *ℤ x +ℤ y *ℤ y) ≤ℤ pos 0 → x ≡ pos 0
@@ -204,7 +212,8 @@ nonneg-cancel {k} {z} p h = go (sign z)
     go : Sign z → Nonneg z
     go (plus q) = positive-nonneg q
     go (nought e) = subst Nonneg (sym e) (nonneg-pos 0)
-    go (minus q) = positive-not (positive-mul p q) (by-ring (k ∷ z ∷ []) Nonneg (v 0 :* v 1) (neg (v 0 :* neg (v 1))) refl h)
+    go (minus q) =
+        positive-not (positive-mul p q) (by-ring (k ∷ z ∷ []) Nonneg (v 0 :* v 1) (neg (v 0 :* neg (v 1))) refl h)
 
 pub positive-cancel : {k z : ℤ} → Nonneg k → Positive (k *ℤ z) → Positive z
 positive-cancel {k} {z} p h = go (sign z)
@@ -213,11 +222,13 @@ positive-cancel {k} {z} p h = go (sign z)
     go (plus q) = q
     go (nought e) = absurd (<ℤ-irrefl (subst Positive (ap (λ y. k *ℤ y) e ∙ *ℤ-zero k) h))
     go (minus q) =
-        positive-not h (by-ring (k ∷ z ∷ []) Nonneg (v 0 :* neg (v 1)) (neg (v 0 :* v 1)) refl (nonneg-mul p (positive-nonneg q)))
+        positive-not h
+        (by-ring (k ∷ z ∷ []) Nonneg (v 0 :* neg (v 1)) (neg (v 0 :* v 1)) refl (nonneg-mul p (positive-nonneg q)))
 
 pub le-cancel : {k a b : ℤ} → Positive k → (k *ℤ a) ≤ℤ (k *ℤ b) → a ≤ℤ b
 le-cancel {k} {a} {b} p h =
-    sub-le (nonneg-cancel p (by-ring (k ∷ a ∷ b ∷ []) Nonneg (v 0 :* v 2 :- v 0 :* v 1) (v 0 :* (v 2 :- v 1)) refl (le-sub h)))
+    sub-le (nonneg-cancel p
+    (by-ring (k ∷ a ∷ b ∷ []) Nonneg (v 0 :* v 2 :- v 0 :* v 1) (v 0 :* (v 2 :- v 1)) refl (le-sub h)))
 
 pub zero-cancel : {k z : ℤ} → Positive k → k *ℤ z ≡ pos 0 → z ≡ pos 0
 zero-cancel {k} {z} p e =
@@ -228,5 +239,6 @@ zero-cancel {k} {z} p e =
 -- ---- a use: 2ab ≤ a² + b², because the difference is the square of a - b
 double-product : (a b : ℤ) → (pos 2 *ℤ (a *ℤ b)) ≤ℤ (a *ℤ a +ℤ b *ℤ b)
 double-product a b =
-    sub-le (by-ring (a ∷ b ∷ []) Nonneg ((v 0 :- v 1) :* (v 0 :- v 1)) (v 0 :* v 0 :+ v 1 :* v 1 :- con (pos 2) :* (v 0 :* v 1)) refl
+    sub-le (by-ring (a ∷ b ∷ []) Nonneg ((v 0 :- v 1) :* (v 0 :- v 1))
+    (v 0 :* v 0 :+ v 1 :* v 1 :- con (pos 2) :* (v 0 :* v 1)) refl
     (square-nonneg (a -ℤ b)))

@@ -1,5 +1,6 @@
--- The solver. An identity of whole numbers is one line, `ring ρ left right refl`: ρ lists the values of the variables v 0, v 1, ..,
--- and `left` and `right` spell the two sides. `refl` passes if left - right has the normal form `nil`; a false identity is refused.
+-- The solver. An identity of whole numbers is one line, `ring ρ left right refl`: ρ lists the values of the variables
+-- v 0, v 1, .., and `left` and `right` spell the two sides. `refl` passes if left - right has the normal form `nil`; a
+-- false identity is refused.
 use mathlib.Core.Path.{_≡_, refl, sym, _∙_, ap, subst}
 use mathlib.Core.List.{List, [], _∷_}
 use Prim.Native.Nat.{zero}
@@ -43,7 +44,8 @@ abbrev mixed : ℤ
 mixed = pos 2
 
 square-of-sum : (a b : ℤ) → (a +ℤ b) *ℤ (a +ℤ b) ≡ a *ℤ a +ℤ mixed *ℤ (a *ℤ b) +ℤ b *ℤ b
-square-of-sum a b = ring (a ∷ b ∷ []) ((v 0 :+ v 1) :* (v 0 :+ v 1)) (v 0 :* v 0 :+ con mixed :* (v 0 :* v 1) :+ v 1 :* v 1) refl
+square-of-sum a b =
+    ring (a ∷ b ∷ []) ((v 0 :+ v 1) :* (v 0 :+ v 1)) (v 0 :* v 0 :+ con mixed :* (v 0 :* v 1) :+ v 1 :* v 1) refl
 
 -- one known equation: of a + b = c the square, by the cofactor a + b + c
 square-of-equal : (a b c : ℤ) → a +ℤ b ≡ c → (a +ℤ b) *ℤ (a +ℤ b) ≡ c *ℤ c
@@ -56,8 +58,8 @@ proportions a b c d e f h k =
     ring2 (a ∷ b ∷ c ∷ d ∷ e ∷ f ∷ []) (v 3 :* (v 0 :* v 5)) (v 3 :* (v 1 :* v 4))
     (v 5) (v 0 :* v 3) (v 1 :* v 2) (v 1) (v 2 :* v 5) (v 3 :* v 4) h k refl
 
--- twelve variables, degree four: where (x, y) goes to (a x + b y + e, c x + d y + f), the doubled area of a triangle is multiplied
--- by a d - b c
+-- twelve variables, degree four: where (x, y) goes to (a x + b y + e, c x + d y + f), the doubled area of a triangle
+-- is multiplied by a d - b c
 abbrev area : ℤ → ℤ → ℤ → ℤ → ℤ → ℤ → ℤ
 area px py qx qy rx ry = (qx -ℤ px) *ℤ (ry -ℤ py) -ℤ (qy -ℤ py) *ℤ (rx -ℤ px)
 
@@ -68,7 +70,8 @@ moved-area : (a b c d e f px py qx qy rx ry : ℤ) →
     ≡ (a *ℤ d -ℤ b *ℤ c) *ℤ area px py qx qy rx ry
 moved-area a b c d e f px py qx qy rx ry =
     ring (a ∷ b ∷ c ∷ d ∷ e ∷ f ∷ px ∷ py ∷ qx ∷ qy ∷ rx ∷ ry ∷ [])
-    (Area (to-x (v 6) (v 7)) (to-y (v 6) (v 7)) (to-x (v 8) (v 9)) (to-y (v 8) (v 9)) (to-x (v 10) (v 11)) (to-y (v 10) (v 11)))
+    (Area (to-x (v 6) (v 7)) (to-y (v 6) (v 7)) (to-x (v 8) (v 9)) (to-y (v 8) (v 9)) (to-x (v 10) (v 11))
+    (to-y (v 10) (v 11)))
     ((v 0 :* v 3 :- v 1 :* v 2) :* Area (v 6) (v 7) (v 8) (v 9) (v 10) (v 11)) refl
   where
     Area : E → E → E → E → E → E → E

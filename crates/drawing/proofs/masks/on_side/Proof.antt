@@ -1,5 +1,5 @@
 -- `drawing::masks::on_side` meets its contract: no mark passed is a side that corner i is on.
-use Prim.Native.Nat.{_≤_, _<_}
+use Prim.Native.Nat.{_<_}
 use native.Mathlib.Omega.{arith}
 use Rattle.drawing.specs.Drawing.{corners}
 use Rattle.drawing.specs.Known.{Within}
@@ -54,7 +54,8 @@ loop-again c =
 returns-2 : tie.Need-returns-2 Inv-loop μ-loop
 returns-2 c =
     let h = c .before .before .pre in
-    never (λ t. scan-end (c .before .loop .inv) (c .loop-test .left) (t .side) (marked (h .2) (t .side) (t .below) (t .along)) (t .within))
+    never (λ t. scan-end (c .before .loop .inv) (c .loop-test .left) (t .side)
+    (marked (h .2) (t .side) (t .below) (t .along)) (t .within))
 
 pub on-side-spec : {M : Type 1} → statement M
 on-side-spec =

@@ -25,7 +25,8 @@ returns : tie.Need-returns
 returns c =
     let s = c .before .before .before .before in
     let end = c .before .corner3 .ensures .is ∙ ap (corner (s .before .args .xy .now)) (s .next .ensures .is) in
-    let e = c .dot .ensures ∙ dot-same (c .before .before .before .corner .ensures .is) (c .before .before .corner2 .ensures .is) end in
+    let e = c .dot .ensures ∙
+    dot-same (c .before .before .before .corner .ensures .is) (c .before .before .corner2 .ensures .is) end in
     by-le (held (c .dot .ok) e) refl (λ h. h) (λ h. h)
 
 pub within-spec : {M : Type 1} → statement M

@@ -67,12 +67,14 @@ d-is c =
 -- the turns of the side's ends
 s-is : (c : tie.After-turn2) →
     let s = c .before .before .before .before .before .before .before .args in
-    c .before .turn .result ≡ Turn (corner (s .xy .now) (s .i)) (corner (s .xy .now) (s .j)) (corner (s .xy .now) (s .k))
+    c .before .turn .result
+    ≡ Turn (corner (s .xy .now) (s .i)) (corner (s .xy .now) (s .j)) (corner (s .xy .now) (s .k))
 s-is c = c .before .turn .ensures ∙ turn-same (a-is c) (b-is c) (c-is c)
 
 t-is : (c : tie.After-turn2) →
     let s = c .before .before .before .before .before .before .before .args in
-    c .turn2 .result ≡ Turn (corner (s .xy .now) (s .i)) (corner (s .xy .now) (s .j)) (corner (s .xy .now) (after (s .xy .now) (s .k)))
+    c .turn2 .result
+    ≡ Turn (corner (s .xy .now) (s .i)) (corner (s .xy .now) (s .j)) (corner (s .xy .now) (after (s .xy .now) (s .k)))
 t-is c = c .turn2 .ensures ∙ turn-same (a-is c) (b-is c) (d-is c)
 
 -- by the drawing's own corners
@@ -88,12 +90,15 @@ t-of c =
 
 first : (c : tie.After-one-side) → Tells (c .one-side .result) (OneSide (s-of c) (t-of c))
 first c =
-    rw (held (c .before .before .turn .ok) (s-is (c .before)), held (c .before .turn2 .ok) (t-is (c .before))) at (c .one-side .ensures)
+    rw (
+      held (c .before .before .turn .ok) (s-is (c .before)),
+      held (c .before .turn2 .ok) (t-is (c .before)),
+    ) at (c .one-side .ensures)
 
 open-side : (c : tie.After-one-side) →
     let s = c .before .before .before .before .before .before .before .before .args in
     Looked (s .xy .now) (s .i) (s .j) (s .k)
-open-side c = record { side = c .before .before .before .before .before .before .before .before .pre .4 }
+open-side c = record { side = c .before .before .before .before .before .before .before .before .pre .1 }
 
 -- two of the tests that follow: s and t differ; one of them is nought
 differ : (c : tie.Else2) → ¬ (s-of (c .before .before) ≡ t-of (c .before .before))
@@ -123,7 +128,8 @@ returns-3 c =
     let e = c .before .before in
     let k = e .before .before .before in
     flat-missed (open-side (e .before .before)) (flat e)
-    (λ t. if-no (c .before .touch .ensures) (c .if3 .left) (touch-as (sym (a-is k)) (sym (b-is k)) (sym (c-is k)) (sym (d-is k)) t))
+    (λ t. if-no (c .before .touch .ensures) (c .if3 .left)
+    (touch-as (sym (a-is k)) (sym (b-is k)) (sym (c-is k)) (sym (d-is k)) t))
 
 returns-4 : tie.Need-returns-4
 returns-4 c =

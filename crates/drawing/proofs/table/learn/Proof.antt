@@ -41,7 +41,10 @@ same-length c = c .before .loop .inv .2
 returns : tie.Need-returns Inv-loop μ-loop
 returns c =
     let all : c .before .loop .i ≡ corners (c .before .before .before .args .xy .now) = omega arith in
-    (rw all at (c .before .loop .inv .1), c .before .loop .inv .2)
+    record {
+      room = omega (arith, c .before .before .before .pre .1, c .before .loop .inv .2);
+      known = rw all at (c .before .loop .inv .1);
+    }
 
 pub learn-spec : {M : Type 1} → statement M
 learn-spec =

@@ -54,6 +54,30 @@ mul-words-8 c = search needs
 slice-write-words-4 : tie.Need-slice-write-words-4
 slice-write-words-4 c = simp length-set (omega arith)
 
+mul-words-9 : tie.Need-mul-words-9
+mul-words-9 c = search needs
+
+add-words-4 : tie.Need-add-words-4
+add-words-4 c = search needs
+
+mul-words-10 : tie.Need-mul-words-10
+mul-words-10 c = search needs
+
+slice-write-words-5 : tie.Need-slice-write-words-5
+slice-write-words-5 c = simp length-set (omega arith)
+
+mul-words-11 : tie.Need-mul-words-11
+mul-words-11 c = search needs
+
+add-words-5 : tie.Need-add-words-5
+add-words-5 c = search needs
+
+mul-words-12 : tie.Need-mul-words-12
+mul-words-12 c = search needs
+
+slice-write-words-6 : tie.Need-slice-write-words-6
+slice-write-words-6 c = simp length-set (omega arith)
+
 same-length : tie.Need-same-length
 same-length c = search needs
 
@@ -83,5 +107,13 @@ learn-one-spec =
     add-words-3
     mul-words-8
     slice-write-words-4
+    mul-words-9
+    add-words-4
+    mul-words-10
+    slice-write-words-5
+    mul-words-11
+    add-words-5
+    mul-words-12
+    slice-write-words-6
     same-length
     returns)

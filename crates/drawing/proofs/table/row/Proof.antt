@@ -1,80 +1,106 @@
--- `drawing::table::row` meets its contract: the pairs of i with the corners from i to below j are written.
-use mathlib.Core.Path.{_≡_, sym, subst}
-use Prim.Native.Nat.{_≤_, _-_}
+-- `drawing::table::row` meets its contract: the marks passed are decided.
+use mathlib.Core.Path.{_≡_, refl, sym, _∙_, subst}
+use Prim.Native.Nat.{_+_, _/_, _^_, _≤_, _<_}
 use native.Mathlib.Omega.{arith}
 use lib.ListN.{length}
-use Rattle.drawing.specs.Drawing.{corners}
 use Rattle.limits.specs.Limits.{all-cells}
-use Rattle.drawing.specs.Parts.{RowFilled}
-use Rattle.drawing.specs.Known.{Knows}
-use Rattle.drawing.proofs.Cells.{row-none, row-more}
+use Rattle.whole.specs.Bits.{bit-from, shifted-below}
+use Rattle.whole.specs.Masks.{Scan, mark, scan-start, scan-mark, scan-less, scan-more, mark-below}
+use Rattle.drawing.specs.Drawing.{corners}
+use Rattle.drawing.specs.Parts.{RowsDone, Grows}
+use Rattle.drawing.specs.Known.{Knows, Facing}
+use Rattle.drawing.proofs.Growing.{grows-on}
+use Rattle.drawing.proofs.Rows.{RowDone, row-start, row-decided, row-end}
 use Rattle.drawing.proofs.table.row.Statement.{statement}
 use Rattle.drawing.proofs.table.row.Tie as tie
 
 abbrev Inv-loop : tie.InvT-loop
-Inv-loop xy words cells₀ i a j₀ j-end cells j = (i ≤ j) × (j ≤ corners xy) × RowFilled xy i j cells₀ cells
+Inv-loop xy words f cells₀ i a rest₀ cells rest =
+    Scan (f / 2 ^ i) rest (λ k. k ≡ k) × Grows xy (RowsDone xy i) (RowDone xy i rest) cells₀ cells
 
 abbrev μ-loop : tie.MeasureT-loop
-μ-loop xy words cells₀ i a j₀ j-end cells j = corners xy - j
+μ-loop xy words f cells₀ i a rest₀ cells rest = rest
 
 recall-requires : tie.Need-recall-requires Inv-loop μ-loop
 recall-requires c κs =
     let h = c .before .before .pre in
-    (h .0 .1, omega (arith, h .0 .0 .shaped .few, h .1 .1))
+    (h .0 .1 .room, omega (arith, h .0 .0 .shaped .few, h .1 .0))
+
+shr-rest : tie.Need-shr-rest Inv-loop μ-loop
+shr-rest c = let h = c .before .before .before .pre in omega (arith, h .0 .0 .shaped .few, h .1 .0)
 
 loop-holds : tie.Need-loop-holds Inv-loop μ-loop
-loop-holds c = (omega arith, omega arith, row-none (c .before .before .before .args .i))
+loop-holds c =
+    let s = c .before .before .before in
+    let small = shifted-below (s .args .f) (s .args .i) in
+    (scan-start (omega (arith, small, s .fits .f .fits)), row-start (s .pre .1 .0) (s .pre .1 .1))
+
+cast-j : tie.Need-cast-j Inv-loop μ-loop
+cast-j c = let l = mark-below (c .before .loop .inv .0) (c .loop-test .taken) in omega (arith, l)
+
+-- the next mark is a corner's
+here : (c : tie.In-loop Inv-loop μ-loop) →
+    let s = c .before .before .before .before .before .args in
+    (s .i + mark (c .before .loop .rest) < corners (s .xy .now)) × (s .i + mark (c .before .loop .rest) < 64)
+    × Facing (s .xy .now) (s .i + mark (c .before .loop .rest)) (s .i)
+here c =
+    let s = c .before .before .before .before .before in
+    let k = mark (c .before .loop .rest) in
+    let l = s .pre .1 .1 .yes (s .args .i + k)
+    (sym (bit-from (s .args .f) (s .args .i) k) ∙ scan-mark (c .before .loop .inv .0) (c .loop-test .taken)) in
+    (l .0, omega (arith, l .0, s .pre .0 .0 .shaped .few), l .1)
+
+add-j : tie.Need-add-j Inv-loop μ-loop
+add-j c = omega (arith, here c .1)
 
 recall-requires-2 : tie.Need-recall-requires-2 Inv-loop μ-loop
-recall-requires-2 c κs =
-    let h = c .before .before .before .before .before .pre in
-    (h .0 .1, omega (arith, h .0 .0 .shaped .few, c .loop-test .taken))
+recall-requires-2 c κs = (c .before .before .before .before .before .pre .0 .1 .room, here c .1)
 
-sees-requires : tie.Need-sees-requires Inv-loop μ-loop
-sees-requires c κs =
-    let h = c .before .before .before .before .before .before .pre in
-    let i = c .before .before .before .before .before .before .args .i in
-    let j = c .before .before .loop .j in
-    let d = c .before .before .before .before .before .before .args .xy .now in (
-      (h .0 .0, h .1 .1, c .before .loop-test .taken),
+decide-requires : tie.Need-decide-requires Inv-loop μ-loop
+decide-requires c κs =
+    let k = c .before .before in
+    let s = k .before .before .before .before .before in
+    let h = s .pre in
+    let d = s .args .xy .now in
+    let i = s .args .i in
+    let j = i + mark (k .before .loop .rest) in (
+      (h .0 .0, omega (arith, h .0 .2, k .before .loop .inv .1 .size)),
       (
-        subst (Knows d i) (sym (c .before .before .before .recall .ensures)) (h .0 .2 i (h .1 .1)),
-        subst (Knows d j) (sym (c .recall2 .ensures)) (h .0 .2 j (c .before .loop-test .taken)),
+        (h .1 .0, here k .0, here k .2),
+        (
+          subst (Knows d i) (sym (k .before .before .recall .ensures)) (h .0 .1 .known i (h .1 .0)),
+          subst (Knows d j) (sym (c .before .recall2 .ensures)) (h .0 .1 .known j (here k .0)),
+        ),
       ),
     )
 
-cast-put : tie.Need-cast-put Inv-loop μ-loop
-cast-put c = tt
-
-put-requires : tie.Need-put-requires Inv-loop μ-loop
-put-requires c κs =
-    let h = c .before .before .before .before .before .before .before .before .pre in
-    let few = h .0 .0 .shaped .few in
-    (omega (arith, c .before .before .before .before .loop .inv .2 .size, h .1 .0), omega arith, omega arith)
-
-add-j : tie.Need-add-j Inv-loop μ-loop
-add-j c = omega arith
+sub-rest : tie.Need-sub-rest Inv-loop μ-loop
+sub-rest c = let n = c .before .before .before .before .before .loop-test .taken in omega (arith, n)
 
 loop-less : tie.Need-loop-less Inv-loop μ-loop
-loop-less c = omega arith
+loop-less c =
+    let k = c .before .before .before .before .before in
+    scan-less (k .before .loop .inv .0) (k .loop-test .taken)
 
 loop-again : tie.Need-loop-again Inv-loop μ-loop
 loop-again c =
-    let head = c .before .before .before .before .before .before .before in
-    let inv = head .loop .inv in
-    let h = head .before .before .before .before .pre in
-    let room : all-cells ≤ length (head .loop .cells) = omega (arith, inv .2 .size, h .1 .0) in
-    let seen = c .before .before .before .before in
-    let more = row-more (h .0 .0 .shaped .few) (inv .0) (seen .before .before .loop-test .taken) (seen .sees .ensures) room (inv .2) in
-    (omega arith, omega arith, rw (c .before .before .put .ensures) more)
+    let k = c .before .before .before .before .before in
+    let s = k .before .before .before .before .before in
+    let h = s .pre in
+    let inv = k .before .loop .inv in
+    let n = k .loop-test .taken in
+    let room : all-cells ≤ length (k .before .loop .cells) = omega (arith, h .0 .2, inv .1 .size) in
+    let decided = c .before .before .decide .ensures in
+    let more = row-decided (h .0 .0 .shaped .few) (h .1 .0) (here k .0) room (inv .0 .fits) n refl decided in
+    (scan-more (inv .0) n refl, grows-on (inv .1) more)
 
 same-length : tie.Need-same-length Inv-loop μ-loop
-same-length c = c .before .loop .inv .2 .size
+same-length c = c .before .loop .inv .1 .size
 
 returns : tie.Need-returns Inv-loop μ-loop
 returns c =
-    let all : c .before .loop .j ≡ corners (c .before .before .before .before .before .args .xy .now) = omega arith in
-    rw all at (c .before .loop .inv .2)
+    let h = c .before .before .before .before .before .pre in
+    grows-on (c .before .loop .inv .1) (row-end (h .1 .0) (c .loop-test .left))
 
 pub row-spec : {M : Type 1} → statement M
 row-spec =
@@ -83,12 +109,13 @@ row-spec =
     Inv-loop
     μ-loop
     recall-requires
+    shr-rest
     loop-holds
-    recall-requires-2
-    sees-requires
-    cast-put
-    put-requires
+    cast-j
     add-j
+    recall-requires-2
+    decide-requires
+    sub-rest
     loop-less
     loop-again
     same-length

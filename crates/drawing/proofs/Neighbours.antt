@@ -1,0 +1,62 @@
+-- The neighbours as they are marked: each corner with itself and with the corner after it.
+use mathlib.Core.Path.{_≡_, refl, sym, ap, _∙_}
+use mathlib.Core.Logic.{_⊎_, inl, inr, by-cases}
+use mathlib.Core.List.{List}
+use Prim.Native.Nat.{ℕ, _+_, _≤_, _<_}
+use native.Mathlib.Decide.{ℕ-discrete}
+use native.Mathlib.Omega.{arith}
+use lib.IntN.{ℤ}
+use lib.ListN.{length}
+use Rattle.limits.specs.Limits.{most-corners, all-cells}
+use Rattle.drawing.specs.Drawing.{corners, after, Beside, Sees}
+use Rattle.drawing.specs.Parts.{None, Grows, Numbers, both}
+use Rattle.drawing.proofs.Growing.{grows-on, grows-as}
+use Rattle.drawing.proofs.Pairs.{Pair, pair-added}
+
+-- those of the corners before i and the corners after them
+abbrev pub NextDone : List ℤ → ℕ → ℕ → ℕ → Type 0
+NextDone d i p q = ((p < i) × ((p ≡ q) ⊎ (after d p ≡ q))) ⊎ ((q < i) × (after d q ≡ p))
+
+module _ {d : List ℤ} where
+  pub next-none : {c : List ℕ} → Grows d None (NextDone d 0) c c
+  next-none = grows-as none
+    where
+      none : (p q : ℕ) → p < corners d → q < corners d → NextDone d 0 p q → Sees d p q → ⊥
+      none p q hp hq (inl h) s = omega (arith, h .0)
+      none p q hp hq (inr h) s = omega (arith, h .0)
+
+  -- corner i with itself, and with the corner n after it
+  pub next-more : {i n : ℕ} {c t u : List ℕ} → corners d ≤ most-corners → i < corners d → Numbers d (after d i) n →
+      all-cells ≤ length c → t ≡ both c i i → u ≡ both t i n →
+      Grows d (NextDone d i) (NextDone d (i + 1)) c u
+  next-more {i} {n} {c} {t} few hi next room e f =
+      grows-on itself
+      (grows-on (pair-added t few hi (next .below) (record { sees = inl (inr (inl is)) }) still f) (grows-as split))
+    where
+      is : after d i ≡ n
+      is = sym (next .is)
+
+      itself : Grows d (NextDone d i) (λ p q. NextDone d i p q ⊎ Pair i i p q) c t
+      itself = pair-added c few hi hi (record { sees = inl (inl refl) }) room e
+
+      still : all-cells ≤ length t
+      still = omega (arith, room, itself .size)
+
+      split : (p q : ℕ) → p < corners d → q < corners d → NextDone d (i + 1) p q → Sees d p q →
+          (NextDone d i p q ⊎ Pair i i p q) ⊎ Pair i n p q
+      split p q hp hq (inl (l, inl e)) s =
+          by-cases (ℕ-discrete p i) (λ x. inl (inr (inl (x, sym e ∙ x)))) (λ x. inl (inl (inl (omega arith, inl e))))
+      split p q hp hq (inl (l, inr e)) s =
+          by-cases (ℕ-discrete p i) (λ x. inr (inl (x, sym e ∙ ap (after d) x ∙ is)))
+          (λ x. inl (inl (inl (omega arith, inr e))))
+      split p q hp hq (inr (l, e)) s =
+          by-cases (ℕ-discrete q i) (λ x. inr (inr (sym e ∙ ap (after d) x ∙ is, x)))
+          (λ x. inl (inl (inr (omega arith, e))))
+
+  pub next-all : {c : List ℕ} → Grows d (NextDone d (corners d)) (Beside d) c c
+  next-all = grows-as all
+    where
+      all : (p q : ℕ) → p < corners d → q < corners d → Beside d p q → Sees d p q → NextDone d (corners d) p q
+      all p q hp hq (inl e) s = inl (hp, inl e)
+      all p q hp hq (inr (inl e)) s = inl (hp, inr e)
+      all p q hp hq (inr (inr e)) s = inr (hq, e)
