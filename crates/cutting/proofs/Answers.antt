@@ -33,7 +33,8 @@ module _ {first second cuts veil : List ℕ} {n : ℕ} (read : Read first second
   same-cuts : (a b : ℕ) → Inner n a b → Cut cuts a b ↔ MayCut first second a b
   same-cuts a b i = let z = read .at a b (omega (arith, i .rises, i .small)) (i .small) in (z .uncut, z .cut)
 
-  pub finished : {val left right before : List ℕ} → Served n first second before → Filled cuts veil val left right n n →
+  pub finished : {val left right before : List ℕ} → Served n first second before →
+      Filled cuts veil val left right n n →
       ¬ (cell val 0 (n - 1) ≡ none) → Solves cuts veil val left right n
   finished s f h = record { three = s .fewest; small = s .most; filled = f; has = h }
 

@@ -72,7 +72,8 @@ fits-is val left right i j x e f a b c =
     ap₂ eqb (e ∙ ap (λ (z : ℕ). min none (z + 1)) (f ∙ ap (λ (z : ℕ). min none z) (ap₂ _+_ a b))) c
 
 module _ (val left col : ℕ → ℕ → ℕ) (right : ℕ → ℕ) (i j b x : ℕ) where
-  pub better-none : fits none one val left right i j x ≡ true → b ≡ row → x ≡ better none one val left col right i j b x
+  pub better-none : fits none one val left right i j x ≡ true → b ≡ row →
+      x ≡ better none one val left col right i j b x
   unfolding better
   better-none f e = rw (f, eq-eqb b row e, better)
 

@@ -76,7 +76,8 @@ ticked-set {pairs} {pairs′} {c} {d} cd d64 t e = record {
   where
     new : T (marked pairs′ c d)
     new = says-marked pairs′ c d (omega arith) d64
-        (omega (arith, ap (λ (l : List ℕ). cell l c d) e, getD-set-same pairs (place c d) 1 0 (omega (arith, t .size))))
+        (omega
+        (arith, ap (λ (l : List ℕ). cell l c d) e, getD-set-same pairs (place c d) 1 0 (omega (arith, t .size))))
 
     other : (p q : ℕ) → q < row → ¬ ((p ≡ c) × (q ≡ d)) → cell pairs′ p q ≡ cell pairs p q
     other p q q64 ne =
@@ -150,7 +151,8 @@ cleared-none = record { at = λ c h. absurd (omega arith) }
 pub cleared-more : {pairs : List ℕ} {k : ℕ} → k < length pairs → Cleared pairs k → Cleared (set pairs k 0) (k + 1)
 cleared-more {pairs} {k} h l = record {
   at =
-      below-more _ _ (λ c p. getD-set-other pairs k c 0 0 (λ e. omega arith) ∙ l .at c p) (getD-set-same pairs k 0 0 h);
+      below-more _ _ (λ c p. getD-set-other pairs k c 0 0 (λ e. omega arith) ∙ l .at c p)
+      (getD-set-same pairs k 0 0 h);
 }
 
 pub cleared-at : {pairs : List ℕ} {k k′ : ℕ} → k ≡ k′ → Cleared pairs k → Cleared pairs k′

@@ -27,7 +27,8 @@ use Rattle.cutting.proofs.Marking.{marked-says}
 use Rattle.cutting.proofs.Values.{never}
 
 -- ---- what has been looked at may be said otherwise
-pub traced-seen : {cut may : ℕ → ℕ → Type 0} {choice : ℕ → ℕ → List ℕ} {m : ℕ} {seen seen′ : ℕ → ℕ → Type 0} {M : Pairs}
+pub traced-seen : {cut may : ℕ → ℕ → Type 0} {choice : ℕ → ℕ → List ℕ} {m : ℕ}
+    {seen seen′ : ℕ → ℕ → Type 0} {M : Pairs}
     → ((a b : ℕ) → seen′ a b → T (M a b) → seen a b) → Traced cut may choice m seen M → Traced cut may choice m seen′ M
 traced-seen f t =
     record { whole = t .whole; ways = t .ways; up = t .up; down = λ i j c d s h. t .down i j c d (f i j s h) h }
@@ -112,7 +113,8 @@ module _ {cuts veil val left right pairs : List ℕ} {n i j : ℕ} (t : Tracing 
       agree = record {
         lefts = lefts;
         cols =
-            λ b x f ix xb bj. laned col x (omega arith) (lanes .at x ix (omega arith) (fit-is x ix (omega arith) ∙ f)) b
+            λ b x f ix xb bj. laned col x (omega arith)
+            (lanes .at x ix (omega arith) (fit-is x ix (omega arith) ∙ f)) b
             xb bj;
       }
 
@@ -169,7 +171,8 @@ module _ {cuts veil val left right pairs : List ℕ} {n i j : ℕ} (t : Tracing 
       pick-is =
           pick-lowest none one (cell val) (diag (t .road)) (t .road j) j (λ y. t .road j y y) i x (low .from) (low .to)
           (omega (arith, line .1, t .corners, t .small)) lowest-fits below-not
-          (λ a ia aj. sym (next-same none one (cell val) one-lane x a refl (low .from) (low .to) ia aj) ∙ every a ia aj)
+          (λ a ia aj. sym (next-same none one (cell val) one-lane x a refl (low .from) (low .to) ia aj)
+          ∙ every a ia aj)
 
       pub lowest-picked : (x ≤ j) × (choiceOf none one (cell val) (t .road) i j ≡ restIn val left col x j i)
       lowest-picked = (

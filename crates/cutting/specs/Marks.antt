@@ -125,7 +125,8 @@ Goes veil val left right before i j after i′ j′ =
 -- the centre x has the piece that is taken on the line i j, where that is in the set: by whichever tables
 abbrev pub Chosen : List ℕ → List ℕ → List ℕ → List ℕ → List ℕ → ℕ → ℕ → ℕ → Type 0
 Chosen veil val left right col i j x =
-    (cuts : List ℕ) (n : ℕ) (pairs : List ℕ) (t : Tracing cuts veil val left right n pairs i j) → T (marked pairs i j) →
+    (cuts : List ℕ) (n : ℕ) (pairs : List ℕ) (t : Tracing cuts veil val left right n pairs i j) →
+    T (marked pairs i j) →
     (x ≤ j) × (choiceOf none one (cell val) (t .road) i j ≡ restIn val left col x j i)
 
 -- ---- the whole

@@ -1,6 +1,7 @@
 // A lane of a column is filled again, from the values alone: the roads of one centre, by which its piece is found.
 //
-//     col, the column of j, lane x:   row x .. row j   the least that a road from there to j costs whose corners x sees
+//     col, the column of j, lane x:   row x .. row j   the least that a road costs from there to j whose corners x
+//                                                      sees
 use crate::cells::cell;
 use crate::cells::put;
 use crate::lanes::NONE;

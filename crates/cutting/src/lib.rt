@@ -1,8 +1,9 @@
 // The first smallest cutting of n corners as a set of pairs, from who sees whom in two drawings. Knows no coordinate
 // and no byte of an answer.
 //
-// The search fills the values of the lines column by column (`lines`, over the rows of `lanes`); of the earlier columns
-// it keeps tables of pairs only. The cutting is then traced from the values (`pieces`, `marks`). No choice is stored.
+// The search fills the values of the lines column by column (`lines`, over the rows of `lanes`); of the earlier
+// columns it keeps tables of pairs only. The cutting is then traced from the values (`pieces`, `marks`). No choice is
+// stored.
 mod again;
 mod cells;
 mod lanes;

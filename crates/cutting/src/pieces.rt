@@ -1,6 +1,6 @@
-// The piece that is taken on a line, found again from the finished tables. The tables left and right tell which centres
-// attain the line's value; the roads to a centre are in left, those from it on are filled again in its lane of the
-// column (`again`).
+// The piece that is taken on a line, found again from the finished tables. The tables left and right tell which
+// centres attain the line's value; the roads to a centre are in left, those from it on are filled again in its lane of
+// the column (`again`).
 use crate::again::lane;
 use crate::cells::cell;
 use crate::lanes::sum;
@@ -17,8 +17,8 @@ ghost use Rattle.cutting.specs.Rows.{none, Veil};
 ghost use Rattle.cutting.specs.Marks.{Routes, Next, restIn, fitsIn, betterIn, pickIn};
 ghost use Rattle.cutting.specs.Marks.{Lowest, EveryIn, Lanes, Chosen};
 
-// The corner after c on the road of x to t: the smallest whose step and rest cost what the road costs; t where no other
-// does.
+// The corner after c on the road of x to t: the smallest whose step and rest cost what the road costs; t where no
+// other does.
 fn seek(val: &[u8], side: &[u8], x: usize, t: usize, c: usize) -> usize
     requires { ⌜ (length (now val) ≡ all-cells) × (length (now side) ≡ all-cells) × (c < t) × (t < row) × (x < row) ⌝ }
     ensures { λ r. ⌜

@@ -38,7 +38,8 @@ first-failed (c ∷ l) = elim (c .1 tt) as (λ x. ℕ) [ true ↦ first-failed l
 -- the checks tell what the lines ask, each where all before it hold
 pub data Checked : List Check → List Line → Type 1 where
   end : Checked [] []
-  then : {test : Unit {0} → Bool} {P : Type 0} {i : ℕ} {k : List Check} {l : List Line} → Tells (test tt) P → (P → Checked k l) →
+  then : {test : Unit {0} → Bool} {P : Type 0} {i : ℕ} {k : List Check} {l : List Line} → Tells (test tt) P →
+      (P → Checked k l) →
       Checked ((i, test) ∷ k) (line i P ∷ l)
 
 pub failed-is : {k : List Check} {l : List Line} → Checked k l → FirstFailed l (first-failed k)

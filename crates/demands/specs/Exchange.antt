@@ -32,7 +32,8 @@ alike-exchanged : (first second : List ℤ) → Alike first second → Alike sec
 alike-exchanged first second a = omega arith
 
 sight-exchanged : (first second : List ℤ) → Alike first second → SameSight first second second first
-sight-exchanged first second a = record { many = omega arith; seen = λ x y h g. (λ s. (s .1, s .0), λ s. (s .1, s .0)) }
+sight-exchanged first second a =
+    record { many = omega arith; seen = λ x y h g. (λ s. (s .1, s .0), λ s. (s .1, s .0)) }
 
 sound-judged : (d d′ : List ℤ) → Sound d → Sound d′ → SameJudged d d′
 sound-judged d d′ s s′ = record {
@@ -58,7 +59,8 @@ pub exchange-results : (first second : List ℤ) (before : List ℕ) (r s : Resu
 exchange-results first second before r s sound-first sound-second h g =
     answer-unique second first before s r g (exchange first second sound-first sound-second before r h)
 
-pub exchange-program : (p : Program) → Meets p → (first second : List ℤ) (before : List ℕ) → Sound first → Sound second →
+pub exchange-program : (p : Program) → Meets p → (first second : List ℤ) (before : List ℕ) →
+    Sound first → Sound second →
     p second first before ≡ p first second before
 exchange-program p m first second before sound-first sound-second =
     exchange-results first second before _ _ sound-first sound-second
@@ -123,7 +125,13 @@ module _ (first second : List ℤ) where
           cutting = g .cutting;
           is-first = g .is-first;
           carries =
-              record { laid = c .laid; layout = c .layout; counted = c .counted; used = c .used; written = c .written };
+              record {
+                laid = c .laid;
+                layout = c .layout;
+                counted = c .counted;
+                used = c .used;
+                written = c .written;
+              };
         };
   }
     where
@@ -137,7 +145,9 @@ pub exchange-one-results : (first second : List ℤ) (before : List ℕ) (r s : 
 exchange-one-results first second before r s sound h g =
     answer-unique second first before s (exchanged-result r) g (exchange-one first second sound before r h)
 
-pub exchange-one-program : (p : Program) → Meets p → (first second : List ℤ) (before : List ℕ) → Sound first ⊎ Sound second →
+pub exchange-one-program : (p : Program) → Meets p → (first second : List ℤ) (before : List ℕ) →
+    Sound first ⊎ Sound second →
     p second first before ≡ exchanged-result (p first second before)
 exchange-one-program p m first second before sound =
-    exchange-one-results first second before _ _ sound (m .answers first second before) (m .answers second first before)
+    exchange-one-results first second before _ _ sound (m .answers first second before)
+    (m .answers second first before)

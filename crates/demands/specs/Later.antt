@@ -113,7 +113,8 @@ abbrev later-test : ℕ × ℕ → Bool
 later-test c =
     let C = alone (c .0) (c .1) in
     inner-test 6 (c .0) (c .1)
-    && (in-test (tree 6 C) (listed Z H) && (eqb (length (pieces 6 C)) 2 && less-test (flat (told 0 (smallest Z H))) (run 6 C)))
+    && (in-test (tree 6 C) (listed Z H)
+    && (eqb (length (pieces 6 C)) 2 && less-test (flat (told 0 (smallest Z H))) (run 6 C)))
 
 z-h-node : Node (smallest Z H)
 unfolding flatMap
@@ -128,9 +129,11 @@ later-sure c h =
     let counts = eq-tells (length (pieces 6 (alone a b))) 2 in
     let p = and-tells (inner-tells 6 a b) (and-tells trees (and-tells counts runs)) .sure h in
     record {
-      valid = listed-valid Z H (omega arith) (alone a b) (alone-uncrossed 6 a b (p .0)) (in-sure _ (listed Z H) (p .1 .0));
+      valid =
+          listed-valid Z H (omega arith) (alone a b) (alone-uncrossed 6 a b (p .0)) (in-sure _ (listed Z H) (p .1 .0));
       two-pieces = p .1 .1 .0;
-      later = λ C f. subst (λ r. Less r (run 6 (alone a b))) (sym (given-run Z H (omega arith) z-h-node C f)) (p .1 .1 .1);
+      later =
+          λ C f. subst (λ r. Less r (run 6 (alone a b))) (sym (given-run Z H (omega arith) z-h-node C f)) (p .1 .1 .1);
     }
 
 pass : T (every later-test later-cuts)
@@ -176,11 +179,13 @@ pub earlier-cutting : (C : Pairs) × ValidCutting fewest-first fewest-second C �
     × ((D : Pairs) → FirstCutting fewest-first fewest-second D → Less (run 7 C) (run 7 D))
 earlier-cutting = (uses 0 first-told, v .0, ap length (v .1) ∙ three-pieces, before)
   where
-    v : ValidCutting fewest-first fewest-second (uses 0 first-told) × (pieces 7 (uses 0 first-told) ≡ told 0 first-told)
+    v : ValidCutting fewest-first fewest-second (uses 0 first-told)
+        × (pieces 7 (uses 0 first-told) ≡ told 0 first-told)
     v =
         listed-told fewest-first fewest-second (omega arith) first-told
         (foremost-in (listed fewest-first fewest-second) foremost-node)
 
     before : (D : Pairs) → FirstCutting fewest-first fewest-second D → Less (run 7 (uses 0 first-told)) (run 7 D)
     before D f =
-        subst₂ Less (sym (ap flat (v .1))) (sym (given-run fewest-first fewest-second (omega arith) given-node D f)) told-before
+        subst₂ Less (sym (ap flat (v .1)))
+        (sym (given-run fewest-first fewest-second (omega arith) given-node D f)) told-before

@@ -14,7 +14,8 @@ use Rattle.desk.specs.Answer.{of-cutting, asked}
 
 -- ---- the table up to its last line
 abbrev pub earlier : List ℤ → List ℤ → ℕ → List Line
-earlier first second room = line 1 (Alike first second) ∷ line 2 (Roomy (corners first) room) ∷ of-drawings first second
+earlier first second room =
+    line 1 (Alike first second) ∷ line 2 (Roomy (corners first) room) ∷ of-drawings first second
 
 -- with number 0 or 9 they hold
 pub earlier-hold : (first second : List ℤ) (room k : ℕ) → (k ≡ 0) ⊎ (k ≡ 9) → FirstFailed (asked first second room) k →

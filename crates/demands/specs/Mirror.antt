@@ -54,7 +54,8 @@ checks first second room t =
 checks-tell : (first second : List ℤ) (room : ℕ) →
     Checked (checks first second room (smallest first second)) (asked first second room)
 checks-tell first second room =
-    then (alike-tells first second) (λ a. then (most-tells _ _) (λ _. drawing-tell 3 4 5 first (drawing-tell 6 7 8 second
+    then (alike-tells first second)
+    (λ a. then (most-tells _ _) (λ _. drawing-tell 3 4 5 first (drawing-tell 6 7 8 second
     (then (smallest-tells first second (a .enough)) (λ _. end)))))
 
 -- ---- what comes back with a number

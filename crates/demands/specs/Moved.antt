@@ -30,7 +30,8 @@ module _ (t : Rule) where
   corner-moved [] i h = absurd (omega arith)
   corner-moved (x ∷ []) i h = absurd (omega arith)
   corner-moved (x ∷ (y ∷ l)) zero h = refl
-  corner-moved (x ∷ (y ∷ l)) (suc i) h = later _ _ (move t l) ∙ corner-moved l i (omega arith) ∙ ap (image t) (sym (later x y l))
+  corner-moved (x ∷ (y ∷ l)) (suc i) h =
+      later _ _ (move t l) ∙ corner-moved l i (omega arith) ∙ ap (image t) (sym (later x y l))
     where
       later : (x y : ℤ) (l : List ℤ) → corner (x ∷ (y ∷ l)) (suc i) ≡ corner l i
       later x y l =
@@ -134,7 +135,8 @@ module _ (t : Rule) where
             ∙ share-moved here there
 
     area-so-far : (k : ℕ) → k < corners d → area-to (move t d) k ≡ factor t *ℤ area-to d k +ℤ from-first k
-    area-so-far zero h = ring (factor t ∷ drift (corner d 0) ∷ []) (con (pos 0)) (v 0 :* con (pos 0) :+ (v 1 :- v 1)) refl
+    area-so-far zero h =
+        ring (factor t ∷ drift (corner d 0) ∷ []) (con (pos 0)) (v 0 :* con (pos 0) :+ (v 1 :- v 1)) refl
     area-so-far (suc k) h =
         side-more k (omega arith) (area-so-far k (omega arith))
         ∙ ap (λ m. factor t *ℤ area-to d (suc k) +ℤ from-first m) (next-inner (corners d) k h)
@@ -147,7 +149,8 @@ module _ (t : Rule) where
         round (suc m) e =
             side-more m (omega arith) (area-so-far m (omega arith))
             ∙ ap (λ k. factor t *ℤ area-to d (suc m) +ℤ from-first k) (next-last (corners d) m (sym e))
-            ∙ ring (factor t ∷ area-to d (suc m) ∷ drift (corner d 0) ∷ []) (v 0 :* v 1 :+ (v 2 :- v 2)) (v 0 :* v 1) refl
+            ∙ ring (factor t ∷ area-to d (suc m) ∷ drift (corner d 0) ∷ [])
+            (v 0 :* v 1 :+ (v 2 :- v 2)) (v 0 :* v 1) refl
 
     pub anticlockwise-moved : (pos 0 <ℤ doubled-area d) ↔ (pos 0 <ℤ doubled-area (move t d))
     anticlockwise-moved = above-kept t area-moved

@@ -34,18 +34,21 @@ image-y x y = v 2 :* x :+ v 3 :* y :+ v 5
 -- cancelled
 module _ (t : Rule) where
   equal : {z w : ℤ} → factor t *ℤ (z -ℤ w) ≡ pos 0 → z ≡ w
-  equal {z} {w} e = ring1 (z ∷ w ∷ []) (v 0) (v 1) (con (pos 1)) (v 0 :- v 1) (con (pos 0)) (zero-cancel (t .above) e) refl
+  equal {z} {w} e =
+      ring1 (z ∷ w ∷ []) (v 0) (v 1) (con (pos 1)) (v 0 :- v 1) (con (pos 0)) (zero-cancel (t .above) e) refl
 
   module _ (p q : Point) (g : image t p .x ≡ image t q .x) (h : image t p .y ≡ image t q .y) where
     equal-x : p .x ≡ q .x
     equal-x =
         equal (ring2 (numbers t (p .x ∷ p .y ∷ q .x ∷ q .y ∷ [])) (factor-of :* (v 6 :- v 8)) (con (pos 0))
-        (v 3) (image-x (v 6) (v 7)) (image-x (v 8) (v 9)) (neg (v 1)) (image-y (v 6) (v 7)) (image-y (v 8) (v 9)) g h refl)
+        (v 3) (image-x (v 6) (v 7)) (image-x (v 8) (v 9)) (neg (v 1)) (image-y (v 6) (v 7))
+        (image-y (v 8) (v 9)) g h refl)
 
     equal-y : p .y ≡ q .y
     equal-y =
         equal (ring2 (numbers t (p .x ∷ p .y ∷ q .x ∷ q .y ∷ [])) (factor-of :* (v 7 :- v 9)) (con (pos 0))
-        (neg (v 2)) (image-x (v 6) (v 7)) (image-x (v 8) (v 9)) (v 0) (image-y (v 6) (v 7)) (image-y (v 8) (v 9)) g h refl)
+        (neg (v 2)) (image-x (v 6) (v 7)) (image-x (v 8) (v 9)) (v 0) (image-y (v 6) (v 7))
+        (image-y (v 8) (v 9)) g h refl)
 
   pub image-apart : {p q : Point} → image t p ≡ image t q → p ≡ q
   image-apart {p} {q} h =
@@ -112,12 +115,14 @@ module _ (t : Rule) (a b c d : Point) where
   abbrev shared-on : Shared a b c d → Shared (image t a) (image t b) (image t c) (image t d)
   shared-on s =
       by-same-numbers s
-      (named-moved t (s .r) (s .p) a b ∙ ap (image (grown-rule t (s .r))) (same-point s) ∙ sym (named-moved t (s .r) (s .q) c d))
+      (named-moved t (s .r) (s .p) a b ∙ ap (image (grown-rule t (s .r))) (same-point s)
+      ∙ sym (named-moved t (s .r) (s .q) c d))
 
   abbrev shared-back : Shared (image t a) (image t b) (image t c) (image t d) → Shared a b c d
   shared-back s =
       by-same-numbers s
-      (image-apart (grown-rule t (s .r)) (sym (named-moved t (s .r) (s .p) a b) ∙ same-point s ∙ named-moved t (s .r) (s .q) c d))
+      (image-apart (grown-rule t (s .r))
+      (sym (named-moved t (s .r) (s .p) a b) ∙ same-point s ∙ named-moved t (s .r) (s .q) c d))
 
   pub shared-moved : Shared a b c d ↔ Shared (image t a) (image t b) (image t c) (image t d)
   shared-moved = (shared-on, shared-back)
@@ -189,7 +194,8 @@ module _ (t : Rule) where
   no-right-turn-kept a b c = not-below-kept (turn-moved a b c)
 
   -- ---- so what is inside an angle stays inside, and nothing else comes in
-  pub inside-moved : (p i q j : Point) → InsideAngle p i q j ↔ InsideAngle (image t p) (image t i) (image t q) (image t j)
+  pub inside-moved : (p i q j : Point) →
+      InsideAngle p i q j ↔ InsideAngle (image t p) (image t i) (image t q) (image t j)
   inside-moved p i q j = (
     inside-too (left-turn-kept p i q) (left-turn-kept i q j .0) (left-turn-kept i j p .0)
         (no-right-turn-kept i p j .1) (no-right-turn-kept i j q .1),

@@ -70,7 +70,8 @@ cases =
     ∷ refused (pos 0 ∷ pos 0 ∷ pos 4 ∷ pos 0 ∷ []) (pos 0 ∷ pos 0 ∷ pos 4 ∷ pos 0 ∷ []) 0 1
     ∷ refused (replicate 130 (pos 0)) (replicate 130 (pos 0)) 0 1
     -- "(0,0) (2,0) (4,0): 4. A corner entered twice: 4."
-    ∷ refused (pos 0 ∷ pos 0 ∷ pos 2 ∷ pos 0 ∷ pos 4 ∷ pos 0 ∷ []) (pos 0 ∷ pos 0 ∷ pos 2 ∷ pos 0 ∷ pos 4 ∷ pos 1 ∷ []) 5 4
+    ∷ refused (pos 0 ∷ pos 0 ∷ pos 2 ∷ pos 0 ∷ pos 4 ∷ pos 0 ∷ [])
+    (pos 0 ∷ pos 0 ∷ pos 2 ∷ pos 0 ∷ pos 4 ∷ pos 1 ∷ []) 5 4
     ∷ refused (pos 0 ∷ pos 0 ∷ pos 4 ∷ pos 0 ∷ pos 4 ∷ pos 0 ∷ pos 0 ∷ pos 4 ∷ []) S 10 4
     -- "Coordinate 1,000,000 may pass; 1,000,001 gives 3 or 6"; and so below zero
     ∷ given (square (negsuc 999999) (pos 1000000)) S 10 1 (4 ∷ 0 ∷ 0 ∷ 1 ∷ 2 ∷ 3 ∷ [])
@@ -108,7 +109,8 @@ pub z-with-h : (before : List ℕ) → 20 ≤ length before →
     Gives Z H before (cutting 2 (5 ∷ 0 ∷ 0 ∷ 1 ∷ 2 ∷ 3 ∷ 5 ∷ 3 ∷ 3 ∷ 3 ∷ 4 ∷ 5 ∷ []))
 z-with-h = outlines _ (inr (inr (inr (inr (inr (inl refl))))))
 
-pub h-with-h : (before : List ℕ) → 20 ≤ length before → Gives H H before (cutting 1 (6 ∷ 0 ∷ 0 ∷ 1 ∷ 2 ∷ 3 ∷ 4 ∷ 5 ∷ []))
+pub h-with-h : (before : List ℕ) → 20 ≤ length before →
+    Gives H H before (cutting 1 (6 ∷ 0 ∷ 0 ∷ 1 ∷ 2 ∷ 3 ∷ 4 ∷ 5 ∷ []))
 h-with-h = outlines _ (inr (inr (inr (inr (inr (inr (inr (inr (inr (inr (inr (inl refl))))))))))))
 
 -- ---- "first the piece of the range, then the ranges under its lines from left to right, each told in the same way":
@@ -117,7 +119,8 @@ h-with-h = outlines _ (inr (inr (inr (inr (inr (inr (inr (inr (inr (inr (inr (in
 pub heptagon : Pairs
 heptagon a b = (eqb a 0 && eqb b 2) || ((eqb a 0 && eqb b 3) || (eqb a 3 && eqb b 6))
 
-pub depth-first : pieces 7 heptagon ≡ (0 ∷ 3 ∷ 6 ∷ []) ∷ (0 ∷ 2 ∷ 3 ∷ []) ∷ (0 ∷ 1 ∷ 2 ∷ []) ∷ (3 ∷ 4 ∷ 5 ∷ 6 ∷ []) ∷ []
+pub depth-first : pieces 7 heptagon ≡ (0 ∷ 3 ∷ 6 ∷ []) ∷ (0 ∷ 2 ∷ 3 ∷ []) ∷ (0 ∷ 1 ∷ 2 ∷ [])
+    ∷ (3 ∷ 4 ∷ 5 ∷ 6 ∷ []) ∷ []
 unfolding pieces heptagon
 depth-first = refl
 
@@ -131,7 +134,8 @@ crossing-not-5 before r e a = crossing-not-simple (earlier .0 .1 .1 .1 .0)
   where
     first-four : List Line
     first-four =
-        line 1 (Alike crossing S) ∷ line 2 (Roomy 4 (length before)) ∷ line 3 (InRange crossing) ∷ line 4 (Simple crossing) ∷ []
+        line 1 (Alike crossing S) ∷ line 2 (Roomy 4 (length before)) ∷ line 3 (InRange crossing)
+        ∷ line 4 (Simple crossing) ∷ []
 
     others : List Line
     others = line 5 (Anticlockwise crossing) ∷ (of-drawing 6 7 8 S ++ of-cutting crossing S)

@@ -20,10 +20,12 @@ module _ (_~_ : Point → Point → Type 0) where
   -- a relation of points that keeps what the definitions ask of points
   pub record Keeps : Type 0 where
     pub apart : {a b a′ b′ : Point} → a ~ a′ → b ~ b′ → a′ ≡ b′ → a ≡ b
-    pub no-more-shared : {a b c d a′ b′ c′ d′ : Point} → a ~ a′ → b ~ b′ → c ~ c′ → d ~ d′ → Shared a′ b′ c′ d′ → Shared a b c d
+    pub no-more-shared : {a b c d a′ b′ c′ d′ : Point} → a ~ a′ → b ~ b′ → c ~ c′ → d ~ d′ →
+        Shared a′ b′ c′ d′ → Shared a b c d
     pub only : {e a b c d e′ a′ b′ c′ d′ : Point} → e ~ e′ → a ~ a′ → b ~ b′ → c ~ c′ → d ~ d′ →
         SharedOnlyAt e a b c d → SharedOnlyAt e′ a′ b′ c′ d′
-    pub inside : {p i q j p′ i′ q′ j′ : Point} → p ~ p′ → i ~ i′ → q ~ q′ → j ~ j′ → InsideAngle p i q j → InsideAngle p′ i′ q′ j′
+    pub inside : {p i q j p′ i′ q′ j′ : Point} → p ~ p′ → i ~ i′ → q ~ q′ → j ~ j′ → InsideAngle p i q j →
+        InsideAngle p′ i′ q′ j′
 
   -- corner i of d′ has the partner τ i of d
   pub record Partners (τ : ℕ → ℕ) (d d′ : List ℤ) : Type 0 where
@@ -80,7 +82,8 @@ module _ (_~_ : Point → Point → Type 0) (τ : ℕ → ℕ) (d d′ : List �
 
   pub partners-simple : Simple d → Simple d′
   partners-simple s = record {
-    two-ends = λ i h e. s .two-ends (τ i) (partner-below (own i h)) (al .keeps .apart (tie (own i h)) (tie (partner-next (own i h))) e);
+    two-ends = λ i h e. s .two-ends (τ i) (partner-below (own i h))
+        (al .keeps .apart (tie (own i h)) (tie (partner-next (own i h))) e);
     neighbours = λ i h.
         let p = own i h in
         let q = partner-next p in
@@ -88,7 +91,8 @@ module _ (_~_ : Point → Point → Type 0) (τ : ℕ → ℕ) (d d′ : List �
     others = λ i j h g u v w z.
         let p = own i h in
         let q = own j g in
-        s .others (τ i) (τ j) (partner-below p) (partner-below q) (λ e. u (same p q .0 e)) (λ e. v (same (partner-next p) q .0 e))
+        s .others (τ i) (τ j) (partner-below p) (partner-below q) (λ e. u (same p q .0 e))
+        (λ e. v (same (partner-next p) q .0 e))
         (λ e. w (same (partner-next q) p .0 e))
         (al .keeps .no-more-shared (tie p) (tie (partner-next p)) (tie q) (tie (partner-next q)) z);
   }
@@ -108,10 +112,12 @@ module _ (_~_ : Point → Point → Type 0) (τ : ℕ → ℕ) (d d′ : List �
           (al .keeps .no-more-shared (tie p) (tie q) (tie o) (tie (partner-next o)) z);
       ends-at-i = λ m h e.
           let o = own m h in
-          al .keeps .only (tie p) (tie p) (tie q) (tie o) (tie (partner-next o)) (c .ends-at-i (τ m) (partner-below o) (ends o p .1 e));
+          al .keeps .only (tie p) (tie p) (tie q) (tie o) (tie (partner-next o))
+          (c .ends-at-i (τ m) (partner-below o) (ends o p .1 e));
       ends-at-j = λ m h e.
           let o = own m h in
-          al .keeps .only (tie q) (tie p) (tie q) (tie o) (tie (partner-next o)) (c .ends-at-j (τ m) (partner-below o) (ends o q .1 e));
+          al .keeps .only (tie q) (tie p) (tie q) (tie o) (tie (partner-next o))
+          (c .ends-at-j (τ m) (partner-below o) (ends o q .1 e));
       angle-at-i = al .keeps .inside (tie (partner-prev p)) (tie p) (tie (partner-next p)) (tie q) (c .angle-at-i);
       angle-at-j = al .keeps .inside (tie (partner-prev q)) (tie q) (tie (partner-next q)) (tie p) (c .angle-at-j);
     }

@@ -21,7 +21,8 @@ even-turned d even = subst (λ m. m ≡ 2 * (m / 2)) (sym (length-turned d)) eve
 
 pub in-range-turned-by : (k : ℕ) (d : List ℤ) → length d ≡ 2 * corners d → InRange d ↔ InRange (turned-by k d)
 in-range-turned-by zero d even = Iff·rfl
-in-range-turned-by (suc k) d even = Iff·trans (in-range-turned d even) (in-range-turned-by k (turned d) (even-turned d even))
+in-range-turned-by (suc k) d even =
+    Iff·trans (in-range-turned d even) (in-range-turned-by k (turned d) (even-turned d even))
 
 pub simple-turned-by : (k : ℕ) (d : List ℤ) → length d ≡ 2 * corners d → Simple d ↔ Simple (turned-by k d)
 simple-turned-by zero d even = Iff·rfl

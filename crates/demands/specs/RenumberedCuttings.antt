@@ -23,7 +23,8 @@ use Rattle.demands.specs.SameAnswer.{alike-by-length}
 -- for each valid cutting of the first pair the second pair has one, of no more pieces
 abbrev pub NoMore : List ℤ → List ℤ → List ℤ → List ℤ → Type 0
 NoMore first second first′ second′ = (C : Pairs) → ValidCutting first second C →
-    (D : Pairs) × ValidCutting first′ second′ D × (length (pieces (corners first′) D) ≤ length (pieces (corners first) C))
+    (D : Pairs) × ValidCutting first′ second′ D
+    × (length (pieces (corners first′) D) ≤ length (pieces (corners first) C))
 
 no-more-trans : {f s f′ s′ f″ s″ : List ℤ} → NoMore f s f′ s′ → NoMore f′ s′ f″ s″ → NoMore f s f″ s″
 no-more-trans h g C va =
@@ -36,7 +37,8 @@ moved-next : (n x x′ : ℕ) → Moved n x x′ → (x < n) × (next n x ≡ x�
 moved-next n x x′ (inl m) = (omega arith, next-last n x (m .0) ∙ sym (m .1))
 moved-next n x x′ (inr m) = (omega arith, next-inner n x (m .0) ∙ sym (m .1))
 
-sees-on : (d : List ℤ) (n : ℕ) → n ≡ corners d → length d ≡ 2 * corners d → (x x′ y y′ : ℕ) → Moved n x x′ → Moved n y y′ →
+sees-on : (d : List ℤ) (n : ℕ) → n ≡ corners d → length d ≡ 2 * corners d → (x x′ y y′ : ℕ) →
+    Moved n x x′ → Moved n y y′ →
     Sees d x y → Sees (turned d) x′ y′
 sees-on d n e even x x′ y y′ m l s =
     let h = moved-next (corners d) x x′ (subst (λ n. Moved n x x′) e m) in
@@ -83,25 +85,34 @@ module _ (first second : List ℤ) (a : Alike first second) where
 
   no-more-turned : NoMore first second (turned first) (turned second)
   no-more-turned C va =
-      subst (λ m. (D : Pairs) × Valid cut′ (HasCentre new) m D × (length (pieces m D) ≤ length (pieces n C))) (sym (corners-turned first))
-      (turn n C, turn-valid n cut cut′ (HasCentre old) (HasCentre new) carried C va, turn-pieces n C (a .enough) (va .uncrossed))
+      subst (λ m. (D : Pairs) × Valid cut′ (HasCentre new) m D × (length (pieces m D) ≤ length (pieces n C)))
+      (sym (corners-turned first)) (
+        turn n C,
+        turn-valid n cut cut′ (HasCentre old) (HasCentre new) carried C va,
+        turn-pieces n C (a .enough) (va .uncrossed),
+      )
 
 -- ---- any number of steps, and back: the steps that are left of once round undo one step
-pub no-more-turned-by : (k : ℕ) (first second : List ℤ) → Alike first second → NoMore first second (turned-by k first) (turned-by k second)
+pub no-more-turned-by : (k : ℕ) (first second : List ℤ) → Alike first second →
+    NoMore first second (turned-by k first) (turned-by k second)
 no-more-turned-by zero first second a = λ C va. (C, va, omega arith)
 no-more-turned-by (suc k) first second a =
-    no-more-trans (no-more-turned first second a) (no-more-turned-by k (turned first) (turned second) (alike-turned first second a))
+    no-more-trans (no-more-turned first second a)
+    (no-more-turned-by k (turned first) (turned second) (alike-turned first second a))
 
 no-more-back : (first second : List ℤ) → Alike first second → NoMore (turned first) (turned second) first second
 no-more-back first second a =
-    subst₂ (NoMore (turned first) (turned second)) (round first (omega arith) (a .even)) (round second (omega arith) (omega arith))
+    subst₂ (NoMore (turned first) (turned second)) (round first (omega arith) (a .even))
+    (round second (omega arith) (omega arith))
     (no-more-turned-by (corners first - 1) (turned first) (turned second) (alike-turned first second a))
   where
     round : (d : List ℤ) → suc (corners first - 1) ≡ corners d → length d ≡ 2 * corners d →
         turned-by (corners first - 1) (turned d) ≡ d
     round d e even = ap (λ m. turned-by m d) e ∙ once-round d even
 
-pub no-more-back-by : (k : ℕ) (first second : List ℤ) → Alike first second → NoMore (turned-by k first) (turned-by k second) first second
+pub no-more-back-by : (k : ℕ) (first second : List ℤ) → Alike first second →
+    NoMore (turned-by k first) (turned-by k second) first second
 no-more-back-by zero first second a = λ C va. (C, va, omega arith)
 no-more-back-by (suc k) first second a =
-    no-more-trans (no-more-back-by k (turned first) (turned second) (alike-turned first second a)) (no-more-back first second a)
+    no-more-trans (no-more-back-by k (turned first) (turned second) (alike-turned first second a))
+    (no-more-back first second a)

@@ -30,7 +30,8 @@ abbrev GivenFor : List ℤ → List ℤ → List ℕ → Result → Type 0
 GivenFor first second before r = Given (plan first second) (corners first) before r
 
 -- the fewest pieces do not become more
-fewest : (first second first′ second′ : List ℤ) (before before′ : List ℕ) (r s : Result) → NoMore first second first′ second′ →
+fewest : (first second first′ second′ : List ℤ) (before before′ : List ℕ) (r s : Result) →
+    NoMore first second first′ second′ →
     GivenFor first second before r → GivenFor first′ second′ before′ s → s .count ≤ r .count
 fewest first second first′ second′ before before′ r s no-more g g′ =
     let D = no-more (g .cutting) (g .is-first .valid) in
@@ -51,7 +52,8 @@ taken first second before r three g =
       arith,
       g .carries .counted,
       g .carries .used,
-      layout-size (plan first second .centre) (pieces (corners first) (g .cutting)) (g .carries .laid) (g .carries .layout),
+      layout-size (plan first second .centre) (pieces (corners first) (g .cutting)) (g .carries .laid)
+          (g .carries .layout),
       pieces-size (corners first) (g .cutting) three (g .is-first .valid .uncrossed),
     )
 
@@ -84,7 +86,8 @@ module _ (k : ℕ) (first second : List ℤ) where
   }
 
   -- the same room: what the buffers hold is left open
-  pub renumbering : (before before′ : List ℕ) (r s : Result) → length before ≡ length before′ → Answers first second before r →
+  pub renumbering : (before before′ : List ℕ) (r s : Result) → length before ≡ length before′ →
+      Answers first second before r →
       Answers (turned-by k first) (turned-by k second) before′ s →
       (r .number ≡ s .number) × (r .count ≡ s .count) × (r .bytes ≡ s .bytes)
   renumbering before before′ r s room h g = let c = counts (decLt 0 (r .number)) in (same, c .0, c .1)
@@ -108,9 +111,14 @@ module _ (k : ℕ) (first second : List ℤ) where
           let p = h .given z in
           let q = g .given (sym same ∙ z) in
           let many = lines a .many in
-          let no-more = fewest first second first′ second′ before before′ r s (no-more-turned-by k first second a) p q in
-          let no-fewer = fewest first′ second′ first second before′ before s r (no-more-back-by k first second a) q p in
-          (omega arith, omega (arith, taken first second before r (a .enough) p, taken first′ second′ before′ s (omega arith) q))
+          let no-more =
+          fewest first second first′ second′ before before′ r s (no-more-turned-by k first second a) p q in
+          let no-fewer =
+          fewest first′ second′ first second before′ before s r (no-more-back-by k first second a) q p in (
+            omega arith,
+            omega
+                (arith, taken first second before r (a .enough) p, taken first′ second′ before′ s (omega arith) q),
+          )
 
   -- so every program that meets the statement gives the same number and counts for the renumbered drawings
   pub renumbering-program : (p : Program) → Meets p → (before before′ : List ℕ) → length before ≡ length before′ →
@@ -118,4 +126,5 @@ module _ (k : ℕ) (first second : List ℤ) where
       let s = p (turned-by k first) (turned-by k second) before′ in
       (r .number ≡ s .number) × (r .count ≡ s .count) × (r .bytes ≡ s .bytes)
   renumbering-program p m before before′ room =
-      renumbering before before′ _ _ room (m .answers first second before) (m .answers (turned-by k first) (turned-by k second) before′)
+      renumbering before before′ _ _ room (m .answers first second before)
+      (m .answers (turned-by k first) (turned-by k second) before′)

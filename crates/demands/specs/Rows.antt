@@ -28,7 +28,8 @@ pub record Case : Type 0 where
   pub answer : Expected
 
 abbrev pub given : List ℤ → List ℤ → ℕ → ℕ → List ℕ → Case
-given first second room count laid = record { first = first; second = second; room = room; answer = cutting count laid }
+given first second room count laid =
+    record { first = first; second = second; room = room; answer = cutting count laid }
 
 abbrev pub refused : List ℤ → List ℤ → ℕ → ℕ → Case
 refused first second room number = record { first = first; second = second; room = room; answer = refusal number }
@@ -52,7 +53,8 @@ pub bytes-tells : (s t : List ℕ) → Tells (bytes-test s t) (s ≡ t)
 bytes-tells [] [] = surely refl
 bytes-tells [] (b ∷ t) = never (λ e. omega (arith, ap length e))
 bytes-tells (a ∷ s) [] = never (λ e. omega (arith, ap length e))
-bytes-tells (a ∷ s) (b ∷ t) = as-well (then-tells (eq-tells a b) (bytes-tells s t)) (λ h. ap₂ _∷_ (h .0) (h .1)) (λ e. (cc, cc))
+bytes-tells (a ∷ s) (b ∷ t) =
+    as-well (then-tells (eq-tells a b) (bytes-tells s t)) (λ h. ap₂ _∷_ (h .0) (h .1)) (λ e. (cc, cc))
 
 abbrev same-test : Expected → Expected → Bool
 same-test e f = eqb (e .number) (f .number) && (eqb (e .count) (f .count) && bytes-test (e .laid) (f .laid))
@@ -84,9 +86,11 @@ case-comes c h before m = go (eqb (c .answer .number) 2) refl m
         elim b as (λ b. Type 0) [ true ↦ length before ≤ c .room | false ↦ c .room ≤ length before ] →
         Gives (c .first) (c .second) before (c .answer)
     go true e m =
-        gives-less (c .first) (c .second) blank before (c .answer) (if-yes (eq-tells _ 2) e) (omega (arith, m, long)) there
+        gives-less (c .first) (c .second) blank before (c .answer) (if-yes (eq-tells _ 2) e)
+        (omega (arith, m, long)) there
     go false e m =
-        gives-more (c .first) (c .second) blank before (c .answer) (if-no (eq-tells _ 2) e) (omega (arith, m, long)) there
+        gives-more (c .first) (c .second) blank before (c .answer) (if-no (eq-tells _ 2) e)
+        (omega (arith, m, long)) there
 
 -- and no other result does
 pub case-only : (c : Case) → Comes c → (before : List ℕ) → Rooms c (length before) → (r : Result) →

@@ -20,7 +20,8 @@ use Rattle.demands.specs.Lines.{given-alike}
 
 -- ---- lines that ask the same of two pairs
 -- the first line asks for lengths alone
-pub alike-by-length : {first second first′ second′ : List ℤ} → length first′ ≡ length first → length second′ ≡ length second →
+pub alike-by-length : {first second first′ second′ : List ℤ} → length first′ ≡ length first →
+    length second′ ≡ length second →
     Alike first second ↔ Alike first′ second′
 alike-by-length e g = (λ a. omega arith, λ a. omega arith)
 
@@ -63,7 +64,8 @@ module _ (first second first′ second′ : List ℤ) where
       let l = lines a in
       let e = l .many in
       let fits : Roomy (corners first) room ↔ Roomy (corners first′) room = (omega arith, omega arith) in
-      same fits (λ _. judged 3 4 5 (l .judged-first) (judged 6 7 8 (l .judged-second) (same (l .cuttable) (λ _. end)))))
+      same fits
+      (λ _. judged 3 4 5 (l .judged-first) (judged 6 7 8 (l .judged-second) (same (l .cuttable) (λ _. end)))))
 
 -- ---- two pairs of drawings with the same sight: their plans agree
 pub record SameSight (first second first′ second′ : List ℤ) : Type 0 where
@@ -74,7 +76,8 @@ sight-back : (first second first′ second′ : List ℤ) → SameSight first se
     SameSight first′ second′ first second
 sight-back first second first′ second′ sight = record {
   many = sym (sight .many);
-  seen = subst (λ n. (x y : ℕ) → x < n → y < n → InBoth first′ second′ x y ↔ InBoth first second x y) (sym (sight .many))
+  seen =
+      subst (λ n. (x y : ℕ) → x < n → y < n → InBoth first′ second′ x y ↔ InBoth first second x y) (sym (sight .many))
       (λ x y h g. Iff·symm (sight .seen x y h g));
 }
 
@@ -113,7 +116,8 @@ one-way : (first second first′ second′ : List ℤ) → Alike first second �
     (Alike first second → SameShapes first second first′ second′) → (before : List ℕ) (r : Result) →
     Answers first second before r → Answers first′ second′ before r
 one-way first second first′ second′ alike shapes before r h = record {
-  numbered = same-failed (same-lines first second first′ second′ (length before) alike lines) (r .number) (h .numbered);
+  numbered =
+      same-failed (same-lines first second first′ second′ (length before) alike lines) (r .number) (h .numbered);
   refused = h .refused;
   given = λ z.
       let a = given-alike first second (length before) (r .number) z (h .numbered) in

@@ -20,7 +20,8 @@ use Rattle.desk.specs.Answer.{Answers}
 use Rattle.demands.specs.Entered.{exchanged, Rule, send, move, turned-by}
 use Rattle.demands.specs.Program.{refusal, writing}
 use Rattle.demands.specs.Checks.{every, every-passes}
-use Rattle.demands.specs.Rows.{Case, given, refused, Rooms, Comes, bytes-test, bytes-tells, case-test, case-comes, case-only}
+use Rattle.demands.specs.Rows.{Case, given, refused, Rooms, Comes, bytes-test}
+use Rattle.demands.specs.Rows.{bytes-tells, case-test, case-comes, case-only}
 
 -- a pair of drawings and its answer; the pair that is made of it, and its answer
 abbrev pub Sample : Type 0
@@ -78,7 +79,10 @@ promised =
     ∷ (refused D E 10 9, refused (move quarter D) E 10 9)
     ∷ (refused far S 10 3, refused (move quarter far) S 10 3)
     -- renumbering, by two corners: as many pieces and bytes; a refusal stays
-    ∷ (given Z H 20 2 cut-3-5, given (turned-by 2 Z) (turned-by 2 H) 20 2 (5 ∷ 1 ∷ 0 ∷ 1 ∷ 2 ∷ 4 ∷ 5 ∷ 3 ∷ 2 ∷ 2 ∷ 3 ∷ 4 ∷ []))
+    ∷ (
+      given Z H 20 2 cut-3-5,
+      given (turned-by 2 Z) (turned-by 2 H) 20 2 (5 ∷ 1 ∷ 0 ∷ 1 ∷ 2 ∷ 4 ∷ 5 ∷ 3 ∷ 2 ∷ 2 ∷ 3 ∷ 4 ∷ []),
+    )
     ∷ (refused D E 10 9, refused (turned-by 2 D) (turned-by 2 E) 10 9)
     ∷ []
 
@@ -100,7 +104,10 @@ unpromised =
     ∷ (given D D 10 1 (4 ∷ 0 ∷ 0 ∷ 1 ∷ 2 ∷ 3 ∷ []), refused D (turned-by 1 D) 10 9)
     ∷ (given S S 10 1 (4 ∷ 0 ∷ 0 ∷ 1 ∷ 2 ∷ 3 ∷ []), refused (turned-by 1 S) (turned-by 1 S) 9 2)
     -- both, by one corner: as many pieces and bytes, and other bytes. The cut is 1-3, by the old numbers 0-2
-    ∷ (given Z H 20 2 cut-3-5, given (turned-by 1 Z) (turned-by 1 H) 20 2 (5 ∷ 0 ∷ 0 ∷ 1 ∷ 3 ∷ 4 ∷ 5 ∷ 3 ∷ 1 ∷ 1 ∷ 2 ∷ 3 ∷ []))
+    ∷ (
+      given Z H 20 2 cut-3-5,
+      given (turned-by 1 Z) (turned-by 1 H) 20 2 (5 ∷ 0 ∷ 0 ∷ 1 ∷ 3 ∷ 4 ∷ 5 ∷ 3 ∷ 1 ∷ 1 ∷ 2 ∷ 3 ∷ []),
+    )
     ∷ []
 
 -- ---- the tests

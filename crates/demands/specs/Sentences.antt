@@ -69,7 +69,8 @@ in-each : (first second d : List ℤ) → corners d ≡ corners first → ((x y 
     (C : Pairs) → ValidCutting first second C → ValidCutting d d C
 in-each first second d e sees C valid =
     subst (λ n. ValidBy (plan d d) n C) (sym e)
-    (valid-map (corners first) (Cut first second) (Cut d d) (HasCentre (InBoth first second)) (HasCentre (InBoth d d)) C
+    (valid-map (corners first) (Cut first second) (Cut d d) (HasCentre (InBoth first second))
+    (HasCentre (InBoth d d)) C
     (record {
       cuts = λ a b i c. (both a b (c .0), both b a (c .1));
       lists = λ S r small three. has-centre-map (λ x y h g. both x y) S small;

@@ -36,7 +36,8 @@ pick-node w i j t l f = go (total w i j t) t l (f t (inl refl)) (λ u h. f u (in
     go : (k : ℕ) (t : Tree) (l : List Tree) → Node t → ((u : Tree) → In u l → Node u) → Node (lightest w i j k t l)
     go k t [] h f = h
     go k t (u ∷ l) h f =
-        step (ltb (total w i j u) k) (go (total w i j u) u l (f u (inl refl)) (λ v g. f v (inr g))) (go k t l h (λ v g. f v (inr g)))
+        step (ltb (total w i j u) k) (go (total w i j u) u l (f u (inl refl)) (λ v g. f v (inr g)))
+        (go k t l h (λ v g. f v (inr g)))
       where
         step : (b : Bool) → Node (lightest w i j (total w i j u) u l) → Node (lightest w i j k t l) →
             Node (elim b [ true ↦ lightest w i j (total w i j u) u l | false ↦ lightest w i j k t l ])
@@ -88,7 +89,8 @@ module _ (first second : List ℤ) where
   agree : Agree (corners first) tested (plan first second)
   agree =
       let A : Agree (corners first) (stars (Seen both-test) (Seen both-test)) (plan first second) =
-      stars-agree (λ a b i. (cut-tells a b .sure, cut-tells a b .told)) (λ x y h g. (both-tells x y .sure, both-tells x y .told)) in
+      stars-agree (λ a b i. (cut-tells a b .sure, cut-tells a b .told))
+      (λ x y h g. (both-tells x y .sure, both-tells x y .told)) in
       record {
         cuts = A .cuts;
         lists = λ S r s t. Iff·trans (has-centre both-test S) (A .lists S r s t);
@@ -149,7 +151,8 @@ module _ (first second : List ℤ) where
     smallest-tells = as-well (node-tells smallest) (λ k. (uses 0 smallest, smallest-first k .0 .valid)) smallest-node
 
     pub smallest-layout : Node smallest →
-        Layout (plan first second .centre) (pieces (corners first) (uses 0 smallest)) (lays both-test (told 0 smallest))
+        Layout (plan first second .centre) (pieces (corners first) (uses 0 smallest))
+        (lays both-test (told 0 smallest))
     smallest-layout k = layout-same agree (uses 0 smallest) _ enough (p .0 .valid) (rw (p .1) laid)
       where
         p : Picked tested
@@ -157,7 +160,8 @@ module _ (first second : List ℤ) where
 
         region : (Q : List ℕ) → In Q (told 0 smallest) → Region (corners first) (uses 0 smallest) Q
         region Q i =
-            pieces-regions (corners first) (uses 0 smallest) enough (p .0 .valid .uncrossed) Q .0 (subst (In Q) (sym (p .1)) i)
+            pieces-regions (corners first) (uses 0 smallest) enough (p .0 .valid .uncrossed) Q .0
+            (subst (In Q) (sym (p .1)) i)
 
         laid : Layout (tested .centre) (told 0 smallest) (lays both-test (told 0 smallest))
         laid =

@@ -24,7 +24,8 @@ use Rattle.demands.specs.Sentences.{BothSound, last-decides}
 
 -- ---- three corners: each is beside each
 beside : (x : ℕ) → x < 3 → (y : ℕ) → y < 3 → (x ≡ y) ⊎ ((next 3 x ≡ y) ⊎ (next 3 y ≡ x))
-beside = all-tells 3 (λ x l. all-tells 3 (λ y m. or-tells (eq-tells _ _) (or-tells (eq-tells _ _) (eq-tells _ _)))) .sure tt
+beside =
+    all-tells 3 (λ x l. all-tells 3 (λ y m. or-tells (eq-tells _ _) (or-tells (eq-tells _ _) (eq-tells _ _)))) .sure tt
 
 three-see : (d : List ℤ) → corners d ≡ 3 → (x y : ℕ) → x < 3 → y < 3 → Sees d x y
 three-see d e x y l m =
@@ -57,7 +58,8 @@ module _ (cut : ℕ → ℕ → Type 0) (sees : ℕ → ℕ → Type 0) (all : (
   -- every cutting is this one
   only-none : (C : Pairs) → Valid cut (HasCentre sees) 3 C → pieces 3 none ≡ pieces 3 C
   unfolding none
-  only-none C va = same-pieces 3 none C (λ a b. (λ h. absurd h, λ c. absurd (no-inner a b (va .uncrossed .inner a b c))))
+  only-none C va =
+      same-pieces 3 none C (λ a b. (λ h. absurd h, λ c. absurd (no-inner a b (va .uncrossed .inner a b c))))
 
   none-first : First cut (HasCentre sees) one 3 none
   none-first = record {
@@ -86,7 +88,8 @@ module _ (first second : List ℤ) (sound : BothSound first second) (e : corners
   pub triangles : Gives first second before (cutting 1 (3 ∷ 0 ∷ 0 ∷ 1 ∷ 2 ∷ []))
   unfolding pieces none
   triangles = record {
-    numbered = last-decides first second (length before) 0 sound (omega arith) (inr ((none, none-is-first .valid), refl));
+    numbered =
+        last-decides first second (length before) 0 sound (omega arith) (inr ((none, none-is-first .valid), refl));
     refused = λ lt. absurd (omega arith);
     given = λ z. record {
       cutting = none;

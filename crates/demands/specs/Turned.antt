@@ -58,14 +58,23 @@ module _ (d : List ℤ) (even : length d ≡ 2 * corners d) where
       new-in-old k h =
           let low : k < length d = subst (λ n. k < n) (length-turned d) h in
           by-cases (decLt k 2) (λ l. (length d - 2 + k, omega arith, front d (omega arith) k l))
-          (λ l. (k - 2, omega arith, ap (λ m. getD (turned d) m (pos 0)) (omega arith) ∙ rest d (omega arith) (k - 2) (omega arith)))
+          (λ l. (
+            k - 2,
+            omega arith,
+            ap (λ m. getD (turned d) m (pos 0)) (omega arith)
+                ∙ rest d (omega arith) (k - 2) (omega arith),
+          ))
 
       old-in-new : (m : ℕ) → m < length d → Stands (turned d) (getD d m (pos 0))
       old-in-new m h =
           by-cases (decLt (2 + m) (length d)) (λ l. (2 + m, below (2 + m) l, sym (rest d (omega arith) m l)))
           (λ l.
-          let k : ℕ = 2 + m - length d in
-          (k, below k (omega arith), ap (λ m. getD d m (pos 0)) (omega arith) ∙ sym (front d (omega arith) k (omega arith))))
+          let k : ℕ = 2 + m - length d in (
+            k,
+            below k (omega arith),
+            ap (λ m. getD d m (pos 0)) (omega arith)
+                ∙ sym (front d (omega arith) k (omega arith)),
+          ))
         where
           below : (k : ℕ) → k < length d → k < length (turned d)
           below k = subst (λ n. k < n) (sym (length-turned d))
@@ -83,7 +92,8 @@ module _ (d : List ℤ) (even : length d ≡ 2 * corners d) where
           y-is = ap (λ m. getD (turned d) m (pos 0)) (omega arith) ∙ rest d (omega arith) (2 * i + 1) (omega arith)
 
       last : ¬ (suc i < corners d) → corner (turned d) (next (corners d) i) ≡ corner d i
-      last l = ap (corner (turned d)) (next-last (corners d) i (omega arith)) ∙ (λ k. record { x = x-is k; y = y-is k })
+      last l =
+          ap (corner (turned d)) (next-last (corners d) i (omega arith)) ∙ (λ k. record { x = x-is k; y = y-is k })
         where
           x-is : getD (turned d) 0 (pos 0) ≡ getD d (2 * i) (pos 0)
           x-is = front d (omega arith) 0 (omega arith) ∙ ap (λ m. getD d m (pos 0)) (omega arith)
@@ -115,7 +125,8 @@ module _ (d : List ℤ) (even : length d ≡ 2 * corners d) where
     keeps = keeps-same;
     many = sym (corners-turned d);
     below = λ i h. to-new (next-below (corners d) i (to-old h));
-    one-to-one = λ i j h g e. sym (prev-next (corners d) i (to-old h)) ∙ ap (prev (corners d)) e ∙ prev-next (corners d) j (to-old g);
+    one-to-one = λ i j h g e. sym (prev-next (corners d) i (to-old h)) ∙ ap (prev (corners d)) e
+        ∙ prev-next (corners d) j (to-old g);
     round = λ i h.
         ap (λ n. next (corners d) (next n i)) (corners-turned d)
         ∙ ap (λ n. next n (next (corners d) i)) (sym (corners-turned d));
@@ -125,7 +136,8 @@ module _ (d : List ℤ) (even : length d ≡ 2 * corners d) where
   pub simple-turned : Simple d ↔ Simple (turned d)
   simple-turned = (partners-simple _ _ d (turned d) on, partners-simple _ _ (turned d) d back)
 
-  pub sees-turned : (i j : ℕ) → i < corners d → j < corners d → Sees d i j ↔ Sees (turned d) (next (corners d) i) (next (corners d) j)
+  pub sees-turned : (i j : ℕ) → i < corners d → j < corners d →
+      Sees d i j ↔ Sees (turned d) (next (corners d) i) (next (corners d) j)
   sees-turned i j h g = (
     λ s. partners-sees _ _ d (turned d) on (next (corners d) i) (next (corners d) j)
         (next-below (corners d) i h) (next-below (corners d) j g)

@@ -23,7 +23,8 @@ module _ (t : Rule) where
   KeepsRange d = InRange d ↔ InRange (move t d)
 
   judged-moved : (d : List ℤ) → KeepsRange d → SameJudged d (move t d)
-  judged-moved d range = record { in-range = range; simple = simple-moved t d; anticlockwise = anticlockwise-moved t d }
+  judged-moved d range =
+      record { in-range = range; simple = simple-moved t d; anticlockwise = anticlockwise-moved t d }
 
   module _ (first second : List ℤ) where
     pub rule-first : KeepsRange first → (before : List ℕ) (r : Result) →
@@ -33,7 +34,8 @@ module _ (t : Rule) where
         (λ a. record {
           judged-first = judged-moved first range;
           judged-second = same-judged second;
-          sight = record { many = corners-moved t first; seen = λ x y h g. Iff·and (sees-moved t first x y h g) Iff·rfl };
+          sight =
+              record { many = corners-moved t first; seen = λ x y h g. Iff·and (sees-moved t first x y h g) Iff·rfl };
         })
 
     pub rule-second : KeepsRange second → (before : List ℕ) (r : Result) →
@@ -43,7 +45,8 @@ module _ (t : Rule) where
         (λ a. record {
           judged-first = same-judged first;
           judged-second = judged-moved second range;
-          sight = record { many = refl; seen = λ x y h g. Iff·and Iff·rfl (sees-moved t second x y (low a h) (low a g)) };
+          sight =
+              record { many = refl; seen = λ x y h g. Iff·and Iff·rfl (sees-moved t second x y (low a h) (low a g)) };
         })
       where
         low : {x : ℕ} → Alike first second → x < corners first → x < corners second
@@ -63,11 +66,13 @@ module _ (t : Rule) where
     module _ (p : Program) (m : Meets p) (before : List ℕ) where
       pub rule-first-program : KeepsRange first → p (move t first) second before ≡ p first second before
       rule-first-program range =
-          rule-first-results range before _ _ (m .answers first second before) (m .answers (move t first) second before)
+          rule-first-results range before _ _ (m .answers first second before)
+          (m .answers (move t first) second before)
 
       pub rule-second-program : KeepsRange second → p first (move t second) before ≡ p first second before
       rule-second-program range =
-          rule-second-results range before _ _ (m .answers first second before) (m .answers first (move t second) before)
+          rule-second-results range before _ _ (m .answers first second before)
+          (m .answers first (move t second) before)
 
   -- a drawing that is in range before and after is one of these
   pub both-in-range : (d : List ℤ) → InRange d → InRange (move t d) → KeepsRange d

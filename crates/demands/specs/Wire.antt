@@ -16,7 +16,8 @@ use Rattle.demands.specs.Outlines.{s-with-s}
 
 -- "Both outlines the square S below, whole input"
 abbrev pub two-squares : List ℕ
-two-squares = characters "1004000000000000000004000000000004000004000000000004\n2004000000000000000004000000000004000004000000000004\n"
+two-squares = characters
+    "1004000000000000000004000000000004000004000000000004\n2004000000000000000004000000000004000004000000000004\n"
 
 -- "Whole output: A0, one piece, 4 corners, centre 0, corners 0 to 3"
 abbrev pub one-line : List ℕ

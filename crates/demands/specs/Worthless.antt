@@ -47,7 +47,8 @@ pub refusing : (before : List ℕ) (r : Result) → 10 ≤ length before → 0 <
 refusing before r room lt a = omega (arith, lt, ap number-of (s-s before r room a))
 
 -- one that writes nothing, by S and S
-pub writing-nothing : (before : List ℕ) (r : Result) → 10 ≤ length before → ¬ (getD before 0 0 ≡ 4) → r .after ≡ before →
+pub writing-nothing : (before : List ℕ) (r : Result) → 10 ≤ length before → ¬ (getD before 0 0 ≡ 4) →
+    r .after ≡ before →
     ¬ Answers S S before r
 writing-nothing before r room n e a = n (ap (λ l. getD l 0 0) (sym e) ∙ ap first-byte (s-s before r room a))
 
@@ -94,7 +95,8 @@ blank n = replicate n 0
 module _ (p : Program) where
   -- one that refuses everything
   pub refuses-everything : ((first second : List ℤ) (before : List ℕ) → 0 < p first second before .number) → ¬ Meets p
-  refuses-everything refuses m = refusing (blank 10) _ (omega arith) (refuses S S (blank 10)) (m .answers S S (blank 10))
+  refuses-everything refuses m =
+      refusing (blank 10) _ (omega arith) (refuses S S (blank 10)) (m .answers S S (blank 10))
 
   zero-z-h : Meets p → p Z H (blank 20) .number ≡ 0
   zero-z-h m = ap number-of (z-h (blank 20) _ (omega arith) (m .answers Z H (blank 20)))
@@ -118,12 +120,14 @@ module _ (p : Program) where
   same-bytes laid same m =
       let z = ap number-of (s-s (blank 10) _ (omega arith) (m .answers S S (blank 10))) in
       one-answer (blank 10) (blank 20) _ _ laid (omega arith) (omega arith) (λ e. omega (arith, e))
-      (same S S (blank 10) z) (same Z H (blank 20) (zero-z-h m)) (m .answers S S (blank 10)) (m .answers Z H (blank 20))
+      (same S S (blank 10) z) (same Z H (blank 20) (zero-z-h m)) (m .answers S S (blank 10))
+      (m .answers Z H (blank 20))
 
   -- one that writes nothing, whatever it reports
   pub writes-nothing : ((first second : List ℤ) (before : List ℕ) → p first second before .after ≡ before) → ¬ Meets p
   writes-nothing nothing m =
-      writing-nothing (blank 10) _ (omega arith) (λ e. omega (arith, e)) (nothing S S (blank 10)) (m .answers S S (blank 10))
+      writing-nothing (blank 10) _ (omega arith) (λ e. omega (arith, e)) (nothing S S (blank 10))
+      (m .answers S S (blank 10))
 
   -- one with invented counts
   module _ (first second : List ℤ) (before : List ℕ) where

@@ -1,4 +1,5 @@
--- From the promises of `cutting` and `telling` to what comes back by the cells of two drawings: one law for each return.
+-- From the promises of `cutting` and `telling` to what comes back by the cells of two drawings: one law for each
+-- return.
 use mathlib.Core.Path.{_≡_, refl, ap, subst}
 use mathlib.Core.Logic.{inl, inr}
 use mathlib.Core.List.{List}
@@ -27,7 +28,8 @@ use Rattle.desk.proofs.Refuses.{refuses}
 
 module _ {n : ℕ} {first second : List ℕ} where
   -- ---- the checks
-  pub cut-1 : {before : List ℕ} (o : Outcome) → Refusal 1 o → ¬ Served n first second → Cuts n first second before (result o before)
+  pub cut-1 : {before : List ℕ} (o : Outcome) → Refusal 1 o → ¬ Served n first second →
+      Cuts n first second before (result o before)
   cut-1 o made not = refuses o 1 made (omega arith) (inl (not, refl))
 
   pub cut-2 : {before : List ℕ} (o : Outcome) → Refusal 2 o → Served n first second → length before < 5 * n - 10 →
@@ -56,7 +58,8 @@ module _ {n : ℕ} {first second : List ℕ} where
 
     pub cut-9 : {before : List ℕ} (o : Outcome) → Refusal 9 o → Roomy n (length before) → r ≡ searched.NoCutting →
         Cuts n first second before (result o before)
-    cut-9 o made roomy e = refuses o 9 made (omega arith) (inr (s, inr (roomy, inl (go (rw e at (h .numbered)), refl))))
+    cut-9 o made roomy e =
+        refuses o 9 made (omega arith) (inr (s, inr (roomy, inl (go (rw e at (h .numbered)), refl))))
       where
         go : FirstFailed (cutting.asked n first second pairs) 9 → ¬ Cuttable (cutting.plan first second) n
         go (inl f) = absurd (omega (arith, f .1))

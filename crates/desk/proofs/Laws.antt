@@ -1,4 +1,5 @@
--- From the promises of `pair` and `drawing`, and from what comes back by cells, to the statement of the answer: one law for each return.
+-- From the promises of `pair` and `drawing`, and from what comes back by cells, to the statement of the answer: one
+-- law for each return.
 use mathlib.Core.Path.{_≡_, refl, subst}
 use mathlib.Core.Logic.{_↔_, inl, inr}
 use mathlib.Core.Bool.{Bool}
@@ -37,7 +38,8 @@ last-line {first} {second} h k f =
 
 -- ---- the cells of both drawings are their sight
 -- a sound drawing's sight is told
-pub sighted : {d : List ℤ} {before after : List ℕ} {r : Bool} → Sound d → length before ≡ all-cells → Sight d before after r →
+pub sighted : {d : List ℤ} {before after : List ℕ} {r : Bool} → Sound d → length before ≡ all-cells →
+    Sight d before after r →
     Seen d before after
 sighted s e x = x .seen (x .served .1 (record { shaped = s .shaped; in-range = s .in-range }, omega arith))
 
@@ -51,10 +53,12 @@ cell-tells {v} {P} c = ((λ f. go f (ℕ-discrete v 1)), λ p e. omega (arith, c
 
 module _ {first second : List ℤ} (pair : SoundPair first second) (first-cells second-cells before₁ before₂ : List ℕ)
     (seen₁ : Seen first before₁ first-cells) (seen₂ : Seen second before₂ second-cells) where
-  sight-is : (x y : ℕ) → x < corners first → y < corners first → cells.InBoth first-cells second-cells x y ↔ InBoth first second x y
+  sight-is : (x y : ℕ) → x < corners first → y < corners first →
+      cells.InBoth first-cells second-cells x y ↔ InBoth first second x y
   sight-is x y p q =
       let f = cell-tells (seen₁ .told x y p q) in
-      let g = cell-tells (seen₂ .told x y (omega (arith, equally-many (pair .alike))) (omega (arith, equally-many (pair .alike)))) in
+      let g = cell-tells
+      (seen₂ .told x y (omega (arith, equally-many (pair .alike))) (omega (arith, equally-many (pair .alike)))) in
       ((λ s. (f .0 (s .0), g .0 (s .1))), (λ s. (f .1 (s .0), g .1 (s .1))))
 
   -- a cut is read at one cell; sight is mutual
@@ -106,7 +110,8 @@ module _ {first second : List ℤ} (before : List ℕ) {number : ℕ} (checks : 
     pub alike : Alike first second
     alike = later .0 .0
 
-    pub line-2 : (o : Outcome) → Refusal 2 o → length before < 5 * corners first - 10 → Answers first second before (result o before)
+    pub line-2 : (o : Outcome) → Refusal 2 o → length before < 5 * corners first - 10 →
+        Answers first second before (result o before)
     line-2 o made lt = refuses o 2 made (omega arith) (inr (alike, inl (λ h. omega arith, refl)))
 
     pub lines-3-to-8 : (o : Outcome) → Refusal number o → ¬ (number ≡ 0) → Roomy (corners first) (length before) →

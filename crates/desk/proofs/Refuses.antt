@@ -10,7 +10,8 @@ use Rattle.desk.specs.Answer.{result}
 use Rattle.desk.specs.Parts.{Refusal}
 use Rattle.desk.specs.declared.Outcome.{Outcome}
 
-pub refuses : {lines : List Line} {p : Plan} {n : ℕ} {before : List ℕ} (o : Outcome) (k : ℕ) → Refusal k o → 0 < k → FirstFailed lines k →
+pub refuses : {lines : List Line} {p : Plan} {n : ℕ} {before : List ℕ} (o : Outcome) (k : ℕ) → Refusal k o → 0 < k →
+    FirstFailed lines k →
     ComesBack lines p n before (result o before)
 refuses o k made lt f = record {
   numbered = rw (made .0) f;

@@ -1,6 +1,7 @@
--- What comes back for a pair of drawings: document 01, "Cuttings" and "What comes back", whole. This is the demand that the desk is proved
--- against, and what a reader has to believe, with the definitions of `drawing` (a sound drawing, sight), of `pair` (what is asked of two
--- drawings) and of `rules` (cuttings, the one that comes first, the layout of its bytes, numbered lines, what comes back).
+-- What comes back for a pair of drawings: document 01, "Cuttings" and "What comes back", whole. This is the demand
+-- that the desk is proved against, and what a reader has to believe, with the definitions of `drawing` (a sound
+-- drawing, sight), of `pair` (what is asked of two drawings) and of `rules` (cuttings, the one that comes first, the
+-- layout of its bytes, numbered lines, what comes back).
 use mathlib.Core.List.{List, [], _∷_, _++_}
 use Prim.Native.Nat.{ℕ}
 use lib.IntN.{ℤ}
@@ -53,7 +54,8 @@ asked first second room =
 
 -- ---- the answer: its number by the table, what each number brings, and every byte of the buffer
 abbrev pub Answers : List ℤ → List ℤ → List ℕ → Result → Type 0
-Answers first second before r = ComesBack (asked first second (length before)) (plan first second) (corners first) before r
+Answers first second before r =
+    ComesBack (asked first second (length before)) (plan first second) (corners first) before r
 
 -- what a call returns and the buffer after it, as 01's result
 abbrev pub result : Outcome → List ℕ → Result

@@ -20,5 +20,7 @@ module _ (first second : List ℤ) (before : List ℕ) where
   pub call-unique : (o o′ : Outcome) (after after′ : List ℕ) → Answers first second before (result o after) →
       Answers first second before (result o′ after′) → (o ≡ o′) × (after ≡ after′)
   call-unique o o′ after after′ h k =
-      let e = answer-unique (result o after) (result o′ after′) h k in
-      ((λ i. record { number = e i .number; pieces = e i .count; bytes = e i .bytes }), ap (λ (r : Result). r .after) e)
+      let e = answer-unique (result o after) (result o′ after′) h k in (
+        (λ i. record { number = e i .number; pieces = e i .count; bytes = e i .bytes }),
+        ap (λ (r : Result). r .after) e,
+      )

@@ -71,8 +71,8 @@ fn search(n: usize, first: &[u8], second: &[u8], pairs: &mut [u8], room: &mut [u
     }
 }
 
-// The answer by the cells of two drawings: 1 where n or the cells are not within the limits, 2 where the room is too small, 9, or 0 and
-// the bytes. The cuts stand in this function's frame.
+// The answer by the cells of two drawings: 1 where n or the cells are not within the limits, 2 where the room is too
+// small, 9, or 0 and the bytes. The cuts stand in this function's frame.
 pub fn cut(n: usize, first: &[u8], second: &[u8], room: &mut [u8]) -> Outcome
     ensures { λ r. ⌜
         Cuts n (now (first .entry)) (now (second .entry)) (now (room .entry)) (result r (now (room .exit))) ⌝ }

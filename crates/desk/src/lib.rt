@@ -1,5 +1,5 @@
-// What comes back for a pair of drawings: document 01, "What comes back". The checks run in the order of its table; a sound pair
-// is cut.
+// What comes back for a pair of drawings: document 01, "What comes back". The checks run in the order of its table; a
+// sound pair is cut.
 ghost use mathlib.Core.Path.{_≡_};
 ghost use lib.ListN.{length};
 ghost use Rattle.limits.specs.Limits.{all-cells};
@@ -40,7 +40,8 @@ fn look(
 ) -> Outcome
     requires { ⌜ Ready (now first) (now second) (length (now room)) ⌝ }
     requires { ⌜ (length (now sight1) ≡ all-cells) × (length (now sight2) ≡ all-cells) ⌝ }
-    ensures { λ r. ⌜ Answers (now (first .entry)) (now (second .entry)) (now (room .entry)) (result r (now (room .exit))) ⌝ }
+    ensures { λ r. ⌜
+        Answers (now (first .entry)) (now (second .entry)) (now (room .entry)) (result r (now (room .exit))) ⌝ }
 {
     drawing::sight(first, sight1);
     drawing::sight(second, sight2);
@@ -50,17 +51,19 @@ fn look(
 // The cells of both drawings stand in this function's frame: 01's flat arrays.
 fn sound(first: &[i32], second: &[i32], room: &mut [u8]) -> Outcome
     requires { ⌜ Ready (now first) (now second) (length (now room)) ⌝ }
-    ensures { λ r. ⌜ Answers (now (first .entry)) (now (second .entry)) (now (room .entry)) (result r (now (room .exit))) ⌝ }
+    ensures { λ r. ⌜
+        Answers (now (first .entry)) (now (second .entry)) (now (room .entry)) (result r (now (room .exit))) ⌝ }
 {
     let mut sight1 = [0u8; ALL_CELLS];
     let mut sight2 = [0u8; ALL_CELLS];
     look(first, second, &mut sight1, &mut sight2, room)
 }
 
-// The answer for a pair: 01's number; with number 0 the room begins with the bytes of the first smallest cutting, and else it keeps
-// every byte.
+// The answer for a pair: 01's number; with number 0 the room begins with the bytes of the first smallest cutting, and
+// else it keeps every byte.
 pub fn answer(first: &[i32], second: &[i32], room: &mut [u8]) -> Outcome
-    ensures { λ r. ⌜ Answers (now (first .entry)) (now (second .entry)) (now (room .entry)) (result r (now (room .exit))) ⌝ }
+    ensures { λ r. ⌜
+        Answers (now (first .entry)) (now (second .entry)) (now (room .entry)) (result r (now (room .exit))) ⌝ }
 {
     let number = pair::check(first, second);
     if number == 1 {
@@ -75,10 +78,12 @@ pub fn answer(first: &[i32], second: &[i32], room: &mut [u8]) -> Outcome
     sound(first, second, room)
 }
 
-// The same call for C, and for what links as C does: each slice is a pointer and a length, and the result comes by value.
+// The same call for C, and for what links as C does: each slice is a pointer and a length, and the result comes by
+// value.
 #[no_mangle]
 pub extern "C" fn iravikkon_answer(first: &[i32], second: &[i32], room: &mut [u8]) -> Outcome
-    ensures { λ r. ⌜ Answers (now (first .entry)) (now (second .entry)) (now (room .entry)) (result r (now (room .exit))) ⌝ }
+    ensures { λ r. ⌜
+        Answers (now (first .entry)) (now (second .entry)) (now (room .entry)) (result r (now (room .exit))) ⌝ }
 {
     answer(first, second, room)
 }

@@ -1,4 +1,5 @@
--- What the rest of a chunk does to a reader does not change as its bytes are taken: one law for each way through the loop of `feed`.
+-- What the rest of a chunk does to a reader does not change as its bytes are taken: one law for each way through the
+-- loop of `feed`.
 use mathlib.Core.Path.{_≡_}
 use mathlib.Core.List.{List}
 use Prim.Native.Nat.{ℕ, _+_, _<_, _≤_}
@@ -20,7 +21,8 @@ module _ (r : Reader) (f g : List ℤ) (chunk : List ℕ) (i : ℕ) where
 
   module _ {s : Step} {f′ g′ : List ℤ} (h : i < length chunk)
       (q : _≡_ {A = Step × List ℤ × List ℤ} (s, f′, g′) (steps r f g (getD chunk i 0))) where
-    pub feeds-on : {r′ : Reader} → s ≡ step.On r′ → feeds r′ f′ g′ (i + 1) (drop (i + 1) chunk) ≡ feeds r f g i (drop i chunk)
+    pub feeds-on : {r′ : Reader} → s ≡ step.On r′ →
+        feeds r′ f′ g′ (i + 1) (drop (i + 1) chunk) ≡ feeds r f g i (drop i chunk)
     unfolding feeds
     feeds-on e = rw (drop-cons chunk i 0 h, ← q, e, add-one i)
 
@@ -29,6 +31,7 @@ module _ (r : Reader) (f g : List ℤ) (chunk : List ℕ) (i : ℕ) where
     unfolding feeds
     feeds-pair e = rw (drop-cons chunk i 0 h, ← q, e)
 
-    pub feeds-fault : s ≡ step.Fault → _≡_ {A = Fed × List ℤ × List ℤ} (fed.Fault, f′, g′) (feeds r f g i (drop i chunk))
+    pub feeds-fault : s ≡ step.Fault →
+        _≡_ {A = Fed × List ℤ × List ℤ} (fed.Fault, f′, g′) (feeds r f g i (drop i chunk))
     unfolding feeds
     feeds-fault e = rw (drop-cons chunk i 0 h, ← q, e)

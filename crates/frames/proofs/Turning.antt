@@ -18,12 +18,14 @@ use Rattle.frames.specs.declared.turn.Step.the-variants as step
 module _ (r : Reader) (f g : List ℤ) (c : ℕ) {a : After} {b : List ℤ} where
   module _ (t : r .second ≡ true) (q : _≡_ {A = After × List ℤ} (a, b) (reads second-tag (r .line) g c)) where
     pub second-on : {l : Line} → a ≡ after.On l →
-        _≡_ {A = Step × List ℤ × List ℤ} (step.On (record { second = true; numbers = r .numbers; line = l }), f, b) (steps r f g c)
+        _≡_ {A = Step × List ℤ × List ℤ}
+        (step.On (record { second = true; numbers = r .numbers; line = l }), f, b) (steps r f g c)
     unfolding steps
     second-on e = rw (t, ← q, e)
 
     module _ {m : ℕ} (e : a ≡ after.Frame m) where
-      pub second-frame : r .numbers ≤ length f → _≡_ {A = Step × List ℤ × List ℤ} (step.Pair (r .numbers) m, f, b) (steps r f g c)
+      pub second-frame : r .numbers ≤ length f →
+          _≡_ {A = Step × List ℤ × List ℤ} (step.Pair (r .numbers) m, f, b) (steps r f g c)
       unfolding steps
       second-frame h = rw (t, ← q, e, le-leb (r .numbers) (length f) h)
 
@@ -37,12 +39,14 @@ module _ (r : Reader) (f g : List ℤ) (c : ℕ) {a : After} {b : List ℤ} wher
 
   module _ (t : r .second ≡ false) (q : _≡_ {A = After × List ℤ} (a, b) (reads first-tag (r .line) f c)) where
     pub first-on : {l : Line} → a ≡ after.On l →
-        _≡_ {A = Step × List ℤ × List ℤ} (step.On (record { second = false; numbers = r .numbers; line = l }), b, g) (steps r f g c)
+        _≡_ {A = Step × List ℤ × List ℤ}
+        (step.On (record { second = false; numbers = r .numbers; line = l }), b, g) (steps r f g c)
     unfolding steps
     first-on e = rw (t, ← q, e)
 
     pub first-frame : {m : ℕ} {l : Line} → a ≡ after.Frame m → l ≡ nothing-read →
-        _≡_ {A = Step × List ℤ × List ℤ} (step.On (record { second = true; numbers = m; line = l }), b, g) (steps r f g c)
+        _≡_ {A = Step × List ℤ × List ℤ}
+        (step.On (record { second = true; numbers = m; line = l }), b, g) (steps r f g c)
     unfolding steps
     first-frame e n = rw (t, ← q, e, n)
 

@@ -48,7 +48,8 @@ put-more bytes out₀ at i {out} {out′} {to} h t e q =
     (sym (sets-append (digits-of (take i bytes)) (digits-of (getD bytes i 0 ∷ [])) out₀ at))
 
 -- ---- the lines
-pub placed : (line out : List ℕ) (at : ℕ) {r : ℕ} {out′ : List ℕ} → at + length line ≤ length out → r ≡ at + length line →
+pub placed : (line out : List ℕ) (at : ℕ) {r : ℕ} {out′ : List ℕ} → at + length line ≤ length out →
+    r ≡ at + length line →
     out′ ≡ sets out at line → Written line out at r out′
 placed line out at h e q =
     record { placed = λ _. (e, q ∙ sets-eq line out at h); refused = λ k. absurd (omega arith) }

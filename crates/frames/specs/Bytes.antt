@@ -72,7 +72,8 @@ then-nothing : (o : Option (List ℕ)) → o ≡ then [] o
 then-nothing none = refl
 then-nothing (some q) = refl
 
-join-then : (h l : ℕ) (q : List ℕ) (o : Option (List ℕ)) → join (some h) (some l) (then q o) ≡ then ((16 * h + l) ∷ q) o
+join-then : (h l : ℕ) (q : List ℕ) (o : Option (List ℕ)) →
+    join (some h) (some l) (then q o) ≡ then ((16 * h + l) ∷ q) o
 join-then h l q none = refl
 join-then h l q (some r) = refl
 
@@ -86,14 +87,17 @@ bytes-append (x ∷ y ∷ xs) ys {p} e = go (digit x) (digit y) (bytes xs) (λ q
     go none l m more e = cc
     go (some h) none m more e = cc
     go (some h) (some l) none more e = cc
-    go (some h) (some l) (some q) more e = let k : (16 * h + l) ∷ q ≡ p = cc in rw (more q refl, ← k) (join-then h l q (bytes ys))
+    go (some h) (some l) (some q) more e =
+        let k : (16 * h + l) ∷ q ≡ p = cc in
+        rw (more q refl, ← k) (join-then h l q (bytes ys))
 
 pub bytes-length : (xs : List ℕ) {p : List ℕ} → bytes xs ≡ some p → length xs ≡ 2 * length p
 bytes-length [] {p} e = let k : [] ≡ p = cc in rw (← k)
 bytes-length (x ∷ []) e = cc
 bytes-length (x ∷ y ∷ xs) {p} e = go (digit x) (digit y) (bytes xs) (λ q. bytes-length xs) e
   where
-    go : (h l : Option ℕ) (m : Option (List ℕ)) → ((q : List ℕ) → m ≡ some q → length xs ≡ 2 * length q) → join h l m ≡ some p →
+    go : (h l : Option ℕ) (m : Option (List ℕ)) → ((q : List ℕ) → m ≡ some q → length xs ≡ 2 * length q) →
+        join h l m ≡ some p →
         suc (suc (length xs)) ≡ 2 * length p
     go none l m more e = cc
     go (some h) none m more e = cc
@@ -148,11 +152,13 @@ module _ (tag t n : ℕ) (whole body more : List ℕ) (read : bytes whole ≡ so
       go none e = refl
       go (some q) e =
           let other : length (body ++ q) ≡ 6 * n → ⊥ = λ k.
-          h (omega (arith, k, length-append whole more, length-append body q, bytes-length whole read, bytes-length more e)) in
+          h (omega
+          (arith, k, length-append whole more, length-append body q, bytes-length whole read, bytes-length more e)) in
           rw (ne-eqb (length (body ++ q)) (6 * n) other, and-false)
 
 -- a frame
-pub frame-whole : (tag n : ℕ) (line body : List ℕ) → bytes line ≡ some (tag ∷ n ∷ body) → n ≤ most-corners → length body ≡ 6 * n →
+pub frame-whole : (tag n : ℕ) (line body : List ℕ) → bytes line ≡ some (tag ∷ n ∷ body) → n ≤ most-corners →
+    length body ≡ 6 * n →
     frame tag line ≡ some (numbers body)
 frame-whole tag n line body read few long =
     rw (read, eq-eqb tag tag refl, le-leb n most-corners few, eq-eqb (length body) (6 * n) long)

@@ -1,4 +1,5 @@
--- A part of an input and what comes after it: what `feed` reports is what the whole input tells from there, however it is cut.
+-- A part of an input and what comes after it: what `feed` reports is what the whole input tells from there, however it
+-- is cut.
 use mathlib.Core.Path.{_≡_, refl, sym, _∙_, ap}
 use mathlib.Core.Bool.{cond}
 use mathlib.Core.List.{List, [], _∷_, _++_}
@@ -23,7 +24,8 @@ tail-of chunk i c cs e = ap (drop 1) e ∙ drop-drop 1 i chunk
 
 module _ (chunk more : List ℕ) where
   one-step : (cs : List ℕ) (i : ℕ) → cs ≡ drop (i + 1) chunk →
-      ((r : Reader) (f g : List ℤ) → from r f g (cs ++ more) ≡ says (feeds r f g (i + 1) cs) chunk more) → (s : Step × List ℤ × List ℤ) →
+      ((r : Reader) (f g : List ℤ) → from r f g (cs ++ more) ≡ says (feeds r f g (i + 1) cs) chunk more) →
+      (s : Step × List ℤ × List ℤ) →
       told-by s (λ r f g. from r f g (cs ++ more)) ≡ says (fed-by s i (λ r f g. feeds r f g (i + 1) cs)) chunk more
   one-step cs i e again (step.On r, f, g) = again r f g
   one-step cs i e again (step.Pair n m, f, g) = rw (← e)
@@ -37,7 +39,8 @@ module _ (chunk more : List ℕ) where
       let after = tail-of chunk i c cs e in
       one-step cs i after (λ r′ f′ g′. reports cs r′ f′ g′ (i + 1) after) (steps r f g c)
 
--- two parts one after the other are read as one: where the first is read to its end, its reader goes on with the second
+-- two parts one after the other are read as one: where the first is read to its end, its reader goes on with the
+-- second
 abbrev pub then-feeds : Fed × List ℤ × List ℤ → ℕ → List ℕ → Fed × List ℤ × List ℤ
 then-feeds (fed.More r, f, g) i ys = feeds r f g i ys
 then-feeds (fed.Pair n m next, f, g) i ys = (fed.Pair n m next, f, g)
@@ -68,12 +71,15 @@ feeding {r} {chunk} {i} {f} {g} q =
     record {
       exact = q;
       tells = λ more.
-          reports chunk more (drop i chunk) r f g i refl ∙ sym (ap (λ (t : Fed × List ℤ × List ℤ). says t chunk more) q);
+          reports chunk more (drop i chunk) r f g i refl
+          ∙ sym (ap (λ (t : Fed × List ℤ × List ℤ). says t chunk more) q);
     }
 
 -- ---- what a caller of `feed` learns in each case of its result
-module _ {r : Reader} {chunk : List ℕ} {i : ℕ} {f g : List ℤ} {x : Fed} {f′ g′ : List ℤ} (p : Feeding r chunk i f g x f′ g′) where
-  pub feed-more : {r′ : Reader} → x ≡ fed.More r′ → (more : List ℕ) → from r f g (drop i chunk ++ more) ≡ from r′ f′ g′ more
+module _ {r : Reader} {chunk : List ℕ} {i : ℕ} {f g : List ℤ} {x : Fed} {f′ g′ : List ℤ}
+    (p : Feeding r chunk i f g x f′ g′) where
+  pub feed-more : {r′ : Reader} → x ≡ fed.More r′ → (more : List ℕ) →
+      from r f g (drop i chunk ++ more) ≡ from r′ f′ g′ more
   feed-more e more = p .tells more ∙ rw e
 
   pub feed-pair : {n m next : ℕ} → x ≡ fed.Pair n m next → (more : List ℕ) →

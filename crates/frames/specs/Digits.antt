@@ -53,7 +53,8 @@ head (a ∷ b ∷ c ∷ e ∷ []) h d =
     record {
       tag = 16 * worth a + worth b;
       count = 16 * worth c + worth e;
-      read = rw (digit-worth a (d .0), digit-worth b (d .1 .0), digit-worth c (d .1 .1 .0), digit-worth e (d .1 .1 .1 .0));
+      read = rw
+          (digit-worth a (d .0), digit-worth b (d .1 .0), digit-worth c (d .1 .1 .0), digit-worth e (d .1 .1 .1 .0));
       byte = omega arith;
       valued = omega arith;
     }

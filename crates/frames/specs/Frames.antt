@@ -1,6 +1,7 @@
 -- The frames on the wire: document 01, "The frames on the wire", read for a whole input. To be believed.
--- An input is any list of bytes, numbers below 256. A character is its number in ASCII: 48 is 0, 65 is A, 10 is the line feed.
--- `events` says what the input tells: its pairs of drawings in order and, where 01 says so, a fault at the end.
+-- An input is any list of bytes, numbers below 256. A character is its number in ASCII: 48 is 0, 65 is A, 10 is the
+-- line feed. `events` says what the input tells: its pairs of drawings in order and, where 01 says so, a fault at the
+-- end.
 use mathlib.Core.Bool.{_&&_, cond}
 use mathlib.Core.List.{List, [], _∷_, _++_}
 use mathlib.Core.Option.{Option, none, some}
@@ -23,20 +24,22 @@ pub record Text : Type 0 where
   pub lines : List (List ℕ)
   pub rest : List ℕ
 
--- a character in front of a text: a line feed ends a line that is empty so far, any other belongs to the first line, or to the rest
--- where there is no line
+-- a character in front of a text: a line feed ends a line that is empty so far, any other belongs to the first line,
+-- or to the rest where there is no line
 abbrev pub in-front : ℕ → List (List ℕ) → List ℕ → Text
 in-front c [] r = record { lines = []; rest = c ∷ r }
 in-front c (l ∷ more) r = record { lines = (c ∷ l) ∷ more; rest = r }
 
 abbrev pub led-by : ℕ → Text → Text
-led-by c t = cond (eqb c line-feed) (record { lines = [] ∷ t .lines; rest = t .rest }) (in-front c (t .lines) (t .rest))
+led-by c t =
+    cond (eqb c line-feed) (record { lines = [] ∷ t .lines; rest = t .rest }) (in-front c (t .lines) (t .rest))
 
 abbrev pub cut : List ℕ → Text
 cut [] = record { lines = []; rest = [] }
 cut (c ∷ input) = led-by c (cut input)
 
--- ---- the bytes of a line: two digits make a byte, the high one first; none where a character is no digit or one is left over
+-- ---- the bytes of a line: two digits make a byte, the high one first; none where a character is no digit or one is
+-- left over
 abbrev pub join : Option ℕ → Option ℕ → Option (List ℕ) → Option (List ℕ)
 join none low more = none
 join (some h) none more = none
@@ -61,16 +64,16 @@ numbers (a ∷ []) = []
 numbers (a ∷ b ∷ []) = []
 numbers (a ∷ b ∷ c ∷ more) = number a b c ∷ numbers more
 
--- ---- 01: "A frame is a byte 10 (first drawing) or 20 (second), a byte n from 00 to 40 (hexadecimal), then for each corner x and y,
--- three bytes each"
+-- ---- 01: "A frame is a byte 10 (first drawing) or 20 (second), a byte n from 00 to 40 (hexadecimal), then for each
+-- corner x and y, three bytes each"
 abbrev pub first-tag : ℕ
 first-tag = 0x10
 
 abbrev pub second-tag : ℕ
 second-tag = 0x20
 
--- the numbers x0, y0, x1, y1 and so on of a line that is a frame with this first byte; none for a line of another form. 40 is the limit of
--- 64 corners.
+-- the numbers x0, y0, x1, y1 and so on of a line that is a frame with this first byte; none for a line of another
+-- form. 40 is the limit of 64 corners.
 abbrev pub framed : ℕ → Option (List ℕ) → Option (List ℤ)
 framed tag none = none
 framed tag (some []) = none
@@ -81,8 +84,8 @@ framed tag (some (t ∷ n ∷ corners)) =
 abbrev pub frame : ℕ → List ℕ → Option (List ℤ)
 frame tag line = framed tag (bytes line)
 
--- ---- 01: "A 10 and a 20 make a pair. .. A line of another form, a frame out of turn, or an input that ends after a 10 gives the line
--- EF and ends the run. Empty input writes nothing."
+-- ---- 01: "A 10 and a 20 make a pair. .. A line of another form, a frame out of turn, or an input that ends after a
+-- 10 gives the line EF and ends the run. Empty input writes nothing."
 pub data Event : Type 0 where
   pair : List ℤ → List ℤ → Event
   fault : Event
@@ -93,8 +96,8 @@ paired none b more = fault ∷ []
 paired (some a) none more = fault ∷ []
 paired (some a) (some b) more = pair a b ∷ more
 
--- the lines are taken two by two. An input that ends inside a line ends with a line of another form. One line with no line after it is a
--- 10 after which the input ends, or no line of a pair at all: a fault in every case.
+-- the lines are taken two by two. An input that ends inside a line ends with a line of another form. One line with no
+-- line after it is a 10 after which the input ends, or no line of a pair at all: a fault in every case.
 abbrev pub told : List (List ℕ) → List ℕ → List Event
 told [] [] = []
 told [] (c ∷ r) = fault ∷ []
@@ -116,7 +119,8 @@ digits-of (b ∷ more) = digit-of (b / 16) ∷ digit-of (b % 16) ∷ digits-of m
 abbrev pub line-of : List ℕ → List ℕ
 line-of bs = digits-of bs ++ line-feed ∷ []
 
--- 01: "A0, the count of pieces in one byte and the answer bytes; or E0 and the refusal number in one byte"; "gives the line EF"
+-- 01: "A0, the count of pieces in one byte and the answer bytes; or E0 and the refusal number in one byte"; "gives the
+-- line EF"
 abbrev pub answer-line : ℕ → List ℕ → List ℕ
 answer-line pieces answer = line-of (0xA0 ∷ pieces ∷ answer)
 

@@ -37,7 +37,8 @@ module _ (tag : ℕ) (l : Line) (buffer : List ℤ) (pre : List ℕ) (c : ℕ) w
     other : (c ≡ line-feed → ⊥) → Doomed tag pre c
     other h = inr (h, λ more. rw (bytes-bad pre c more (digit-none c out)))
 
-    ends-head : l .head ≡ true → length pre < 4 → Dec (c ≡ line-feed) → Then tag buffer pre c (closes l c (length buffer), buffer)
+    ends-head : l .head ≡ true → length pre < 4 → Dec (c ≡ line-feed) →
+        Then tag buffer pre c (closes l c (length buffer), buffer)
     ends-head h short (yes f) = rw (← closes-head l c (length buffer) f h) (inl (f, frame-short tag pre short))
     ends-head h short (no n) = rw (← closes-other l c (length buffer) n) (other n)
 
@@ -61,7 +62,8 @@ module _ (tag : ℕ) (l : Line) (buffer : List ℤ) (pre : List ℕ) (c : ℕ) w
           let none-left : cs ≡ [] = nothing-left cs (omega arith) in
           rw (← closes-frame l c (length buffer) f h z w fits) (
             f,
-            rw (e, none-left, append-nil whole, b .kept) (frame-whole tag n whole body (b .read) (b .few) (omega arith)),
+            rw (e, none-left, append-nil whole, b .kept)
+                (frame-whole tag n whole body (b .read) (b .few) (omega arith)),
             fits,
             refl,
           )
@@ -72,7 +74,8 @@ module _ (tag : ℕ) (l : Line) (buffer : List ℤ) (pre : List ℕ) (c : ℕ) w
     value-next : {cs : List ℕ} → Part l cs → length cs < 6 → valued l (worth c) ≡ value-on 0 (cs ++ c ∷ [])
     value-next {cs} p short = omega (arith, value-small cs short (p .digits), value-more 0 cs c)
 
-    one-more : {cs : List ℕ} {m : Line} → Part l cs → length cs < 6 → m .part ≡ l .part + 1 → m .value ≡ valued l (worth c) →
+    one-more : {cs : List ℕ} {m : Line} → Part l cs → length cs < 6 → m .part ≡ l .part + 1 →
+        m .value ≡ valued l (worth c) →
         Part m (cs ++ c ∷ [])
     one-more {cs} {m} p short counts values =
         record {
@@ -91,10 +94,15 @@ module _ (tag : ℕ) (l : Line) (buffer : List ℤ) (pre : List ℕ) (c : ℕ) w
     head-digit : length pre < 4 → Part l pre → Dec (length pre < 3) → (v : ℕ) → v ≡ valued l (worth c) →
         Dec (v < tag * 256) → Dec (most-corners < v - tag * 256) → Then tag buffer pre c (begins tag l v, buffer)
     head-digit short p (yes k) v e d₁ d₂ =
-        rw (← begins-more tag l v (omega arith))
-        (no-feed c fine, in-head refl (omega (arith, length-append pre (c ∷ []))) (one-more p (omega arith) refl e), refl)
+        rw (← begins-more tag l v (omega arith)) (
+          no-feed c fine,
+          in-head refl (omega (arith, length-append pre (c ∷ [])))
+              (one-more p (omega arith) refl e),
+          refl,
+        )
     head-digit short p (no k) v e d₁ d₂ =
-        go (head (pre ++ c ∷ []) (omega (arith, length-append pre (c ∷ []))) (digits-more pre c (p .digits) fine)) d₁ d₂
+        go
+        (head (pre ++ c ∷ []) (omega (arith, length-append pre (c ∷ []))) (digits-more pre c (p .digits) fine)) d₁ d₂
       where
         go : Head (pre ++ c ∷ []) → Dec (v < tag * 256) → Dec (most-corners < v - tag * 256) →
             Then tag buffer pre c (begins tag l v, buffer)
@@ -108,10 +116,12 @@ module _ (tag : ℕ) (l : Line) (buffer : List ℤ) (pre : List ℕ) (c : ℕ) w
             (λ t few. omega (arith, value-next p (omega arith), two .valued))))
         go two (no low) (no many) =
             let same-tag : two .tag ≡ tag = omega (arith, value-next p (omega arith), two .valued, two .byte) in
-            let count : two .count ≡ v - tag * 256 = omega (arith, value-next p (omega arith), two .valued, two .byte) in
+            let count : two .count ≡ v - tag * 256 =
+            omega (arith, value-next p (omega arith), two .valued, two .byte) in
             rw (← begins-body tag l v (omega arith) (omega arith) (omega arith)) (
               no-feed c fine,
-              in-body refl (pre ++ c ∷ []) [] [] (v - tag * 256) (sym (append-nil (pre ++ c ∷ []))) (nothing-more refl refl)
+              in-body refl (pre ++ c ∷ []) [] [] (v - tag * 256) (sym (append-nil (pre ++ c ∷ [])))
+                  (nothing-more refl refl)
                   (record {
                     read = two .read ∙ rw (same-tag, count);
                     few = omega arith;
@@ -189,8 +199,10 @@ module _ (tag : ℕ) (l : Line) (buffer : List ℤ) (pre : List ℕ) (c : ℕ) w
             refl,
           )
       body-digit (yes k) (no five) =
-          let digits-six : length (cs ++ c ∷ []) ≡ 6 = omega (arith, length-append cs (c ∷ []), p .counted, b .short) in
-          rw (← reads-number tag l buffer c (worth c) refl fine h k (omega arith) (omega (arith, b .few, b .wanted)) refl) (
+          let digits-six : length (cs ++ c ∷ []) ≡ 6 =
+          omega (arith, length-append cs (c ∷ []), p .counted, b .short) in
+          rw (← reads-number tag l buffer c (worth c) refl fine h k (omega arith)
+          (omega (arith, b .few, b .wanted)) refl) (
             no-feed c fine,
             sixth k (omega arith) (six (cs ++ c ∷ []) digits-six (digits-more cs c (p .digits) fine)),
             length-set buffer (l .at) (two's-complement (valued l (worth c))),
@@ -203,7 +215,8 @@ module _ (tag : ℕ) (l : Line) (buffer : List ℤ) (pre : List ℕ) (c : ℕ) w
       go : Dec (worth c < 16) → Then tag buffer pre c (reads tag l buffer c)
       go (yes fine) =
           rw (← reads-head tag l buffer c (worth c) refl fine h refl)
-          (head-digit fine short p (decLt (length pre) 3) (valued l (worth c)) refl (decLt (valued l (worth c)) (tag * 256))
+          (head-digit fine short p (decLt (length pre) 3) (valued l (worth c)) refl
+          (decLt (valued l (worth c)) (tag * 256))
           (decLt most-corners (valued l (worth c) - tag * 256)))
       go (no out) =
           rw (← reads-close tag l buffer c (worth c) refl (omega arith) refl)

@@ -1,6 +1,7 @@
 -- ---- to be believed: 01's frames and lines
 pub mod Frames
--- ---- what the public calls promise: `feed` and the functions that write a line, and that each promise leaves one result
+-- ---- what the public calls promise: `feed` and the functions that write a line, and that each promise leaves one
+-- result
 pub mod Promise
 pub mod Answer
 pub mod Unique

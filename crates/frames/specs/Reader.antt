@@ -1,5 +1,6 @@
--- The reader as an automaton: what each byte does to a reader and to the two buffers, for every reader, every byte and all buffers.
--- This is what the code's functions promise, step for step; `Whole` proves that it gives the events of 01.
+-- The reader as an automaton: what each byte does to a reader and to the two buffers, for every reader, every byte and
+-- all buffers. This is what the code's functions promise, step for step; `Whole` proves that it gives the events of
+-- 01.
 use mathlib.Core.Bool.{Bool, true, false, cond, not}
 use mathlib.Core.List.{List, [], _∷_}
 use mathlib.Core.Option.{Option·getD}
@@ -32,12 +33,14 @@ closes l c room =
     cond (eqb c line-feed)
     (cond (l .head) after.Bad
     (cond (eqb (l .part) 0)
-    (cond (eqb (l .at) (l .want)) (cond (leb (l .at) room) (after.Frame (l .at)) after.Bad) after.Bad) after.Bad)) after.Bad
+    (cond (eqb (l .at) (l .want)) (cond (leb (l .at) room) (after.Frame (l .at)) after.Bad) after.Bad) after.Bad))
+    after.Bad
 
 -- a digit of the first two bytes, whose value is v with it: after the fourth they are the tag and the count of corners
 unfoldable pub begins : ℕ → Line → ℕ → After
 begins tag l v =
-    cond (ltb (l .part) 3) (after.On (record { head = true; want = l .want; at = l .at; part = l .part + 1; value = v }))
+    cond (ltb (l .part) 3)
+    (after.On (record { head = true; want = l .want; at = l .at; part = l .part + 1; value = v }))
     (cond (ltb v (tag * 256)) after.Bad
     (cond (leb (v - tag * 256) most-corners)
     (after.On (record { head = false; want = 2 * (v - tag * 256); at = 0; part = 0; value = 0 })) after.Bad))
@@ -46,7 +49,8 @@ begins tag l v =
 unfoldable pub goes-on : Line → List ℤ → ℕ → After × List ℤ
 goes-on l buffer v =
     cond (ltb (l .at) (l .want))
-    (cond (ltb (l .part) 5) (after.On (record { head = false; want = l .want; at = l .at; part = l .part + 1; value = v }), buffer)
+    (cond (ltb (l .part) 5)
+    (after.On (record { head = false; want = l .want; at = l .at; part = l .part + 1; value = v }), buffer)
     (cond (ltb (l .at) (length buffer)) (
       after.On (record { head = false; want = l .want; at = l .at + 1; part = 0; value = 0 }),
       set buffer (l .at) (two's-complement v),
@@ -84,7 +88,8 @@ steps r f g c =
     (on-first (r .numbers) (reads first-tag (r .line) f c .0) (reads first-tag (r .line) f c .1) g)
 
 -- ---- a part of an input, whose first byte has the number i
-abbrev pub fed-by : Step × List ℤ × List ℤ → ℕ → (Reader → List ℤ → List ℤ → Fed × List ℤ × List ℤ) → Fed × List ℤ × List ℤ
+abbrev pub fed-by : Step × List ℤ × List ℤ → ℕ → (Reader → List ℤ → List ℤ → Fed × List ℤ × List ℤ) →
+    Fed × List ℤ × List ℤ
 fed-by (step.On r, f, g) i more = more r f g
 fed-by (step.Pair n m, f, g) i more = (fed.Pair n m (i + 1), f, g)
 fed-by (step.Fault, f, g) i more = (fed.Fault, f, g)

@@ -37,11 +37,13 @@ module _ (l : Line) (c room : ℕ) where
         module _ (w : l .at ≡ l .want) where
           pub closes-long : room < l .at → after.Bad ≡ closes l c room
           unfolding closes
-          closes-long m = rw (eq-eqb c line-feed f, h, eq-eqb (l .part) 0 p, eq-eqb (l .at) (l .want) w, lt-leb (l .at) room m)
+          closes-long m =
+              rw (eq-eqb c line-feed f, h, eq-eqb (l .part) 0 p, eq-eqb (l .at) (l .want) w, lt-leb (l .at) room m)
 
           pub closes-frame : l .at ≤ room → after.Frame (l .at) ≡ closes l c room
           unfolding closes
-          closes-frame m = rw (eq-eqb c line-feed f, h, eq-eqb (l .part) 0 p, eq-eqb (l .at) (l .want) w, le-leb (l .at) room m)
+          closes-frame m =
+              rw (eq-eqb c line-feed f, h, eq-eqb (l .part) 0 p, eq-eqb (l .at) (l .want) w, le-leb (l .at) room m)
 
 -- ---- a digit of the first two bytes
 module _ (tag : ℕ) (l : Line) (v : ℕ) where
@@ -67,7 +69,8 @@ module _ (tag : ℕ) (l : Line) (v : ℕ) where
 
 -- ---- any character
 module _ (tag : ℕ) (l : Line) (buffer : List ℤ) (c d : ℕ) (e : d ≡ worth c) where
-  pub reads-close : {r : After} → 16 ≤ d → r ≡ closes l c (length buffer) → _≡_ {A = After × List ℤ} (r, buffer) (reads tag l buffer c)
+  pub reads-close : {r : After} → 16 ≤ d → r ≡ closes l c (length buffer) →
+      _≡_ {A = After × List ℤ} (r, buffer) (reads tag l buffer c)
   unfolding reads
   reads-close h q = rw (q, ← e, le-ltb d 16 h)
 
@@ -83,8 +86,10 @@ module _ (tag : ℕ) (l : Line) (buffer : List ℤ) (c d : ℕ) (e : d ≡ worth
       reads-over k = rw (← e, lt-ltb d 16 h, t, le-ltb (l .at) (l .want) k)
 
       module _ (k : l .at < l .want) where
-        pub reads-digit : l .part < 5 → _≡_ {A = After × List ℤ}
-            (after.On (record { head = false; want = l .want; at = l .at; part = l .part + 1; value = valued l d }), buffer)
+        pub reads-digit : l .part < 5 → _≡_ {A = After × List ℤ} (
+          after.On (record { head = false; want = l .want; at = l .at; part = l .part + 1; value = valued l d }),
+          buffer,
+        )
             (reads tag l buffer c)
         unfolding reads goes-on
         reads-digit p = rw (← e, lt-ltb d 16 h, t, lt-ltb (l .at) (l .want) k, lt-ltb (l .part) 5 p)
@@ -92,11 +97,29 @@ module _ (tag : ℕ) (l : Line) (buffer : List ℤ) (c d : ℕ) (e : d ≡ worth
         module _ (p : 5 ≤ l .part) where
           pub reads-full : length buffer ≤ l .at → _≡_ {A = After × List ℤ} (after.Bad, buffer) (reads tag l buffer c)
           unfolding reads goes-on
-          reads-full m = rw (← e, lt-ltb d 16 h, t, lt-ltb (l .at) (l .want) k, le-ltb (l .part) 5 p, le-ltb (l .at) (length buffer) m)
+          reads-full m = rw (
+            ← e,
+            lt-ltb d 16 h,
+            t,
+            lt-ltb (l .at) (l .want) k,
+            le-ltb (l .part) 5 p,
+            le-ltb (l .at) (length buffer) m,
+          )
 
-          pub reads-number : {z : ℤ} → l .at < length buffer → z ≡ two's-complement (valued l d) → _≡_ {A = After × List ℤ}
-              (after.On (record { head = false; want = l .want; at = l .at + 1; part = 0; value = 0 }), set buffer (l .at) z)
+          pub reads-number : {z : ℤ} → l .at < length buffer → z ≡ two's-complement (valued l d) →
+              _≡_ {A = After × List ℤ} (
+                after.On (record { head = false; want = l .want; at = l .at + 1; part = 0; value = 0 }),
+                set buffer (l .at) z,
+              )
               (reads tag l buffer c)
           unfolding reads goes-on
           reads-number m q =
-              rw (q, ← e, lt-ltb d 16 h, t, lt-ltb (l .at) (l .want) k, le-ltb (l .part) 5 p, lt-ltb (l .at) (length buffer) m)
+              rw (
+                q,
+                ← e,
+                lt-ltb d 16 h,
+                t,
+                lt-ltb (l .at) (l .want) k,
+                le-ltb (l .part) 5 p,
+                lt-ltb (l .at) (length buffer) m,
+              )

@@ -11,7 +11,8 @@ use lib.IntN.{ℤ}
 use lib.ListN.{length, drop, length-drop}
 use Rattle.limits.specs.Limits.{most-corners}
 use Rattle.frames.specs.Frames.{line-feed, first-tag, second-tag}
-use Rattle.frames.specs.Reader.{worth, closes, begins, goes-on, reads, valued, on-first, on-second, steps, fed-by, feeds}
+use Rattle.frames.specs.Reader.{worth, closes, begins, goes-on, reads, valued}
+use Rattle.frames.specs.Reader.{on-first, on-second, steps, fed-by, feeds}
 use Rattle.frames.specs.declared.Line.{Line}
 use Rattle.frames.specs.declared.Reader.{Reader}
 use Rattle.frames.specs.declared.Fed.{Fed}
@@ -67,13 +68,15 @@ module _ (tag : ℕ) (l : Line) (buffer : List ℤ) (c : ℕ) where
       by-test (LineTakes l) (ltb (l .at) (l .want))
       (λ _. by-test (LineTakes l) (ltb (l .part) 5)
       (λ _. rw h (omega arith))
-      (λ p. by-test (LineTakes l) (ltb (l .at) (length buffer)) (λ _. rw h (omega (arith, ltb-false (l .part) 5 p))) (λ _. tt))) (λ _. tt)
+      (λ p. by-test (LineTakes l) (ltb (l .at) (length buffer)) (λ _. rw h (omega (arith, ltb-false (l .part) 5 p)))
+      (λ _. tt))) (λ _. tt)
 
   reads-takes : LineTakes l (reads tag l buffer c)
   unfolding reads
   reads-takes =
       by-test (LineTakes l) (ltb (worth c) 16)
-      (λ _. by-test (LineTakes l) (l .head) (begins-takes (valued l (worth c))) (goes-on-takes (valued l (worth c)))) (λ _. closes-takes)
+      (λ _. by-test (LineTakes l) (l .head) (begins-takes (valued l (worth c))) (goes-on-takes (valued l (worth c))))
+      (λ _. closes-takes)
 
 -- ---- the two lines of a pair
 abbrev Takes : ℕ → Step × List ℤ × List ℤ → Type 0
@@ -94,14 +97,16 @@ steps-takes r f g c =
     (λ t. second t (reads second-tag (r .line) g c) (reads-takes second-tag (r .line) g c))
     (λ t. first t (reads first-tag (r .line) f c) (reads-takes first-tag (r .line) f c))
   where
-    second : r .second ≡ true → (ab : After × List ℤ) → LineTakes (r .line) ab → Takes (taken r) (on-second (r .numbers) (ab .0) f (ab .1))
+    second : r .second ≡ true → (ab : After × List ℤ) → LineTakes (r .line) ab →
+        Takes (taken r) (on-second (r .numbers) (ab .0) f (ab .1))
     second t (after.On m, b) h = omega (arith, taken-second r t, h)
     second t (after.Frame m, b) h =
         by-test (λ (s : Step). Takes (taken r) (s, f, b)) (leb (r .numbers) (length f))
         (λ fits. (omega (arith, taken-second r t, h .0), leb-true (r .numbers) (length f) fits, h .1)) (λ _. tt)
     second t (after.Bad, b) h = tt
 
-    first : r .second ≡ false → (ab : After × List ℤ) → LineTakes (r .line) ab → Takes (taken r) (on-first (r .numbers) (ab .0) (ab .1) g)
+    first : r .second ≡ false → (ab : After × List ℤ) → LineTakes (r .line) ab →
+        Takes (taken r) (on-first (r .numbers) (ab .0) (ab .1) g)
     first t (after.On m, b) h = omega (arith, taken-first r t, h)
     first t (after.Frame m, b) h = omega (arith, taken-first r t, h .0)
     first t (after.Bad, b) h = tt
@@ -113,26 +118,30 @@ FedTakes k i e (fed.Pair n m next, f, g) =
     (10 + 6 * n + 6 * m + i ≤ k + next) × (i < next) × (next ≤ e) × (n ≤ length f) × (m ≤ length g)
 FedTakes k i e (fed.Fault, f, g) = Unit {0}
 
-feeds-takes : (xs : List ℕ) (r : Reader) (f g : List ℤ) (i : ℕ) → FedTakes (taken r) i (i + length xs) (feeds r f g i xs)
+feeds-takes : (xs : List ℕ) (r : Reader) (f g : List ℤ) (i : ℕ) →
+    FedTakes (taken r) i (i + length xs) (feeds r f g i xs)
 unfolding feeds
 feeds-takes [] r f g i = omega arith
 feeds-takes (c ∷ cs) r f g i = go (λ r′ f′ g′. feeds-takes cs r′ f′ g′ (i + 1)) (steps r f g c) (steps-takes r f g c)
   where
-    later : (r′ : Reader) → taken r′ ≤ taken r + 1 → (x : Fed × List ℤ × List ℤ) → FedTakes (taken r′) (i + 1) (i + 1 + length cs) x →
+    later : (r′ : Reader) → taken r′ ≤ taken r + 1 → (x : Fed × List ℤ × List ℤ) →
+        FedTakes (taken r′) (i + 1) (i + 1 + length cs) x →
         FedTakes (taken r) i (i + suc (length cs)) x
     later r′ k (fed.More q, f′, g′) h = omega (arith, h)
-    later r′ k (fed.Pair n m next, f′, g′) h = (omega (arith, h .0), omega (arith, h .1), omega (arith, h .2), h .3, h .4)
+    later r′ k (fed.Pair n m next, f′, g′) h =
+        (omega (arith, h .0), omega (arith, h .1), omega (arith, h .2), h .3, h .4)
     later r′ k (fed.Fault, f′, g′) h = tt
 
-    go : ((r′ : Reader) (f′ g′ : List ℤ) → FedTakes (taken r′) (i + 1) (i + 1 + length cs) (feeds r′ f′ g′ (i + 1) cs)) →
+    go : ((r′ : Reader) (f′ g′ : List ℤ) →
+        FedTakes (taken r′) (i + 1) (i + 1 + length cs) (feeds r′ f′ g′ (i + 1) cs)) →
         (s : Step × List ℤ × List ℤ) → Takes (taken r) s →
         FedTakes (taken r) i (i + suc (length cs)) (fed-by s i (λ r′ f′ g′. feeds r′ f′ g′ (i + 1) cs))
     go again (step.On r′, f′, g′) h = later r′ h (feeds r′ f′ g′ (i + 1) cs) (again r′ f′ g′)
     go again (step.Pair n m, f′, g′) h = (omega (arith, h .0), omega arith, omega arith, h .1, h .2)
     go again (step.Fault, f′, g′) h = tt
 
--- of a pair that `feed` reports: where the input goes on, that both drawings lie in their buffers, and the bytes it took. From a fresh
--- reader that is the pair's own length at least.
+-- of a pair that `feed` reports: where the input goes on, that both drawings lie in their buffers, and the bytes it
+-- took. From a fresh reader that is the pair's own length at least.
 pub record PairTakes (r : Reader) (f′ g′ : List ℤ) (size i n m next : ℕ) : Type 0 where
   pub took : 10 + 6 * n + 6 * m + i ≤ taken r + next
   pub on : i < next

@@ -29,7 +29,8 @@ module _ (out : List ℕ) (at r s : ℕ) (out′ out″ : List ℕ) where
       Written (answer-line pieces answer) out at s out″ → (r ≡ s) × (out′ ≡ out″)
   answer-line-unique pieces answer = written-unique (answer-line pieces answer) out at r s out′ out″
 
-  pub refusal-line-unique : (number : ℕ) → Written (refusal-line number) out at r out′ → Written (refusal-line number) out at s out″ →
+  pub refusal-line-unique : (number : ℕ) → Written (refusal-line number) out at r out′ →
+      Written (refusal-line number) out at s out″ →
       (r ≡ s) × (out′ ≡ out″)
   refusal-line-unique number = written-unique (refusal-line number) out at r s out′ out″
 

@@ -1,5 +1,6 @@
 -- The reader gives the events of 01: `from` a fresh reader over a whole input is `events` of it.
--- By induction over the input, with `pre` the characters of the line that is being read: what is still to come belongs behind them.
+-- By induction over the input, with `pre` the characters of the line that is being read: what is still to come belongs
+-- behind them.
 use mathlib.Core.Path.{_≡_, refl, sym, _∙_, ap}
 use mathlib.Core.Bool.{Bool, true, false, cond}
 use mathlib.Core.List.{List, [], _∷_, _++_, append-nil}
@@ -14,7 +15,8 @@ use lib.Seq.{append-snoc}
 use Rattle.frames.specs.Frames.{line-feed, first-tag, second-tag, frame, Text, in-front, led-by, cut}
 use Rattle.limits.specs.Limits.{most-numbers}
 use Rattle.frames.specs.Frames.{Event, pair, fault, paired, told, events}
-use Rattle.frames.specs.Reader.{nothing-read, fresh, reads, on-first, on-second, steps, ends-in-fault, told-by, from}
+use Rattle.frames.specs.Reader.{nothing-read, fresh, reads, on-first, on-second}
+use Rattle.frames.specs.Reader.{steps, ends-in-fault, told-by, from}
 use Rattle.frames.specs.Bytes.{bytes-length}
 use Rattle.frames.specs.Holds.{Holds, in-head, in-body, holds-nothing, Doomed, Then}
 use Rattle.frames.specs.Keeps.{keeps}
@@ -44,7 +46,8 @@ onto-other pre c t n = rw (ne-eqb c line-feed n) (go (t .lines) (t .rest))
     go [] r = rw (append-snoc pre c r)
     go (l ∷ ls) r = rw (append-snoc pre c l)
 
-onto-feed : (pre : List ℕ) (c : ℕ) (t : Text) → c ≡ line-feed → onto pre (led-by c t) ≡ record { lines = pre ∷ t .lines; rest = t .rest }
+onto-feed : (pre : List ℕ) (c : ℕ) (t : Text) → c ≡ line-feed →
+    onto pre (led-by c t) ≡ record { lines = pre ∷ t .lines; rest = t .rest }
 onto-feed pre c t e = rw (eq-eqb c line-feed e, append-nil pre)
 
 -- ---- what the lines tell, by whose turn it is
@@ -69,11 +72,13 @@ told-rest (c ∷ r) h = refl
 module _ (tag : ℕ) (tells : List (List ℕ) → List ℕ → List Event)
     (tells-none : (l : List ℕ) (ls : List (List ℕ)) (r : List ℕ) → frame tag l ≡ none → tells (l ∷ ls) r ≡ fault ∷ [])
     (tells-rest : (r : List ℕ) → 0 < length r → tells [] r ≡ fault ∷ []) where
-  doomed : (pre : List ℕ) (c : ℕ) (t : Text) → Doomed tag pre c → fault ∷ [] ≡ tells (onto pre (led-by c t) .lines) (onto pre (led-by c t) .rest)
+  doomed : (pre : List ℕ) (c : ℕ) (t : Text) → Doomed tag pre c →
+      fault ∷ [] ≡ tells (onto pre (led-by c t) .lines) (onto pre (led-by c t) .rest)
   doomed pre c t (inl (e, k)) = rw (onto-feed pre c t e) (sym (tells-none pre (t .lines) (t .rest) k))
   doomed pre c t (inr (n, k)) = rw (ne-eqb c line-feed n) (go (t .lines) (t .rest))
     where
-      go : (ls : List (List ℕ)) (r : List ℕ) → fault ∷ [] ≡ tells (onto pre (in-front c ls r) .lines) (onto pre (in-front c ls r) .rest)
+      go : (ls : List (List ℕ)) (r : List ℕ) →
+          fault ∷ [] ≡ tells (onto pre (in-front c ls r) .lines) (onto pre (in-front c ls r) .rest)
       go [] r = sym (tells-rest (pre ++ c ∷ r) (omega (arith, length-append pre (c ∷ r))))
       go (l ∷ ls) r = sym (tells-none (pre ++ c ∷ l) ls r (k l))
 
@@ -110,7 +115,8 @@ at-end r f pre b = cond b (told-second (take (r .numbers) f)) told [] (pre ++ []
 
 -- ---- a byte more, with the rest of the input in hand
 module _ (xs : List ℕ) (more : Tells xs) (c : ℕ) (n : ℕ) (pre : List ℕ) where
-  by-first : (f g : List ℤ) → most-numbers ≤ length f → most-numbers ≤ length g → (ab : After × List ℤ) → Then first-tag f pre c ab →
+  by-first : (f g : List ℤ) → most-numbers ≤ length f → most-numbers ≤ length g → (ab : After × List ℤ) →
+      Then first-tag f pre c ab →
       told-by (on-first n (ab .0) (ab .1) g) (λ r′ f′ g′. from r′ f′ g′ xs)
       ≡ told (onto pre (led-by c (cut xs)) .lines) (onto pre (led-by c (cut xs)) .rest)
   by-first f g hf hg (after.On l, b) (no-feed, holds, same) =
@@ -129,7 +135,8 @@ module _ (xs : List ℕ) (more : Tells xs) (c : ℕ) (n : ℕ) (pre : List ℕ) 
       ≡ told-second (take n f) (onto pre (led-by c (cut xs)) .lines) (onto pre (led-by c (cut xs)) .rest)
   by-second f g hf hg fits (after.On l, b) (no-feed, holds, same) =
       rw (onto-other pre c (cut xs) no-feed)
-      (more (record { second = true; numbers = n; line = l }) f b (pre ++ c ∷ []) (second refl fits holds) hf (omega arith))
+      (more (record { second = true; numbers = n; line = l }) f b (pre ++ c ∷ [])
+      (second refl fits holds) hf (omega arith))
   by-second f g hf hg fits (after.Frame m, b) (feed, is, within, same) =
       rw (le-leb n (length f) fits, onto-feed pre c (cut xs) feed, is)
       (ap (λ (es : List Event). pair (take n f) (take m b) ∷ es)
@@ -142,12 +149,15 @@ unfolding from steps
 tells [] r f g pre (first t holds) hf hg = end-first r f pre t holds ∙ sym (ap (at-end r f pre) t)
 tells [] r f g pre (second t fits holds) hf hg = end-second r t ∙ sym (ap (at-end r f pre) t)
 tells (c ∷ xs) r f g pre (first t holds) hf hg =
-    rw t (by-first xs (tells xs) c (r .numbers) pre f g hf hg (reads first-tag (r .line) f c) (keeps first-tag (r .line) f pre c holds hf))
+    rw t (by-first xs (tells xs) c (r .numbers) pre f g hf hg (reads first-tag (r .line) f c)
+    (keeps first-tag (r .line) f pre c holds hf))
 tells (c ∷ xs) r f g pre (second t fits holds) hf hg =
     rw t
     (by-second xs (tells xs) c (r .numbers) pre f g hf hg fits (reads second-tag (r .line) g c)
     (keeps second-tag (r .line) g pre c holds hg))
 
 -- ---- 01 over the whole input, whatever the buffers held before
-pub from-start : (f g : List ℤ) (xs : List ℕ) → most-numbers ≤ length f → most-numbers ≤ length g → from fresh f g xs ≡ events xs
-from-start f g xs hf hg = rw (onto-nothing (cut xs)) at (tells xs fresh f g [] (first refl (holds-nothing first-tag f)) hf hg)
+pub from-start : (f g : List ℤ) (xs : List ℕ) → most-numbers ≤ length f → most-numbers ≤ length g →
+    from fresh f g xs ≡ events xs
+from-start f g xs hf hg =
+    rw (onto-nothing (cut xs)) at (tells xs fresh f g [] (first refl (holds-nothing first-tag f)) hf hg)

@@ -1,5 +1,5 @@
-// The lines of an answer: each is laid into `out` from `at` on, and the place after it comes back. Where it has no room, nothing is written
-// and `at` comes back.
+// The lines of an answer: each is laid into `out` from `at` on, and the place after it comes back. Where it has no
+// room, nothing is written and `at` comes back.
 use crate::digits::put;
 use crate::digits::put_all;
 ghost use Rattle.frames.specs.Frames.{answer-line, refusal-line, fault-line};

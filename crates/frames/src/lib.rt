@@ -1,5 +1,5 @@
-// Lines of hexadecimal, as document 01 has them on the wire: a reader of frames that reports pairs of drawings, and the lines of an answer.
-// What is done with a pair is no matter of this crate.
+// Lines of hexadecimal, as document 01 has them on the wire: a reader of frames that reports pairs of drawings, and
+// the lines of an answer. What is done with a pair is no matter of this crate.
 ghost use mathlib.Core.Path.{_≡_};
 ghost use Rattle.frames.specs.Reader.{fresh, ends-in-fault};
 ghost use Rattle.frames.specs.Promise.{Feeding};
@@ -13,7 +13,8 @@ use frame::blank;
 use turn::Step;
 use turn::take;
 
-// What is read of a line. Any values of the fields will do: what each means for the next byte is stated for all of them.
+// What is read of a line. Any values of the fields will do: what each means for the next byte is stated for all of
+// them.
 pub struct Line {
     // within the first two bytes
     pub head: bool,
@@ -40,7 +41,8 @@ pub struct Reader {
 pub enum Fed {
     // all of it is read, and this is the reader after it
     More(Reader),
-    // a pair: how many numbers stand in the first buffer and in the second, and where the input goes on, with a fresh reader
+    // a pair: how many numbers stand in the first buffer and in the second, and where the input goes on, with a fresh
+    // reader
     Pair {
         first: usize,
         second: usize,
@@ -61,8 +63,8 @@ pub fn start() -> Reader
     }
 }
 
-// Reads `chunk` from `from` on, up to its end, a pair or a fault. The numbers of the drawings go into `first` and `second`;
-// a frame that has no room there is a fault.
+// Reads `chunk` from `from` on, up to its end, a pair or a fault. The numbers of the drawings go into `first` and
+// `second`; a frame that has no room there is a fault.
 pub fn feed(reader: Reader, chunk: &[u8], from: usize, first: &mut [i32], second: &mut [i32]) -> Fed
     ensures { λ r. ⌜ Feeding reader (now (chunk .entry)) from (now (first .entry)) (now (second .entry))
         r (now (first .exit)) (now (second .exit)) ⌝ }

@@ -18,7 +18,8 @@ pub enum Step {
 }
 
 pub fn take(reader: Reader, c: u8, first: &mut [i32], second: &mut [i32]) -> Step
-    ensures { λ r. ⌜ (r, now (first .exit), now (second .exit)) ≡ steps reader (now (first .entry)) (now (second .entry)) c ⌝ }
+    ensures { λ r. ⌜ (r, now (first .exit), now (second .exit))
+        ≡ steps reader (now (first .entry)) (now (second .entry)) c ⌝ }
 {
     let line = reader.line;
     let numbers = reader.numbers;

@@ -1,5 +1,5 @@
-// The desk program: reads standard input to its end and writes the answer lines to standard output. It only moves bytes between the
-// descriptors and `terminal`, which has all the logic.
+// The desk program: reads standard input to its end and writes the answer lines to standard output. It only moves
+// bytes between the descriptors and `terminal`, which has all the logic.
 use libc::STDIN_FILENO;
 use libc::STDOUT_FILENO;
 use limits::MOST_NUMBERS;
@@ -67,7 +67,8 @@ fn turn(session: Session, first: &mut [i32], second: &mut [i32]) -> Next
     }
 }
 
-// A proved loop has to end, and nothing says that the input does: the turns are counted down from a number that no run uses up.
+// A proved loop has to end, and nothing says that the input does: the turns are counted down from a number that no run
+// uses up.
 fn main() {
     let mut first = [0i32; MOST_NUMBERS];
     let mut second = [0i32; MOST_NUMBERS];

@@ -16,8 +16,10 @@ pub const ALL_CELLS: usize = ROW * ROW;
 // The numbers of a drawing: an x and a y for each corner.
 pub const MOST_NUMBERS: usize = 2 * MOST_CORNERS;
 
-// 01, "What comes back": "5n-10 is the most that any cutting of n corners takes". The room that the program gives each pair.
+// 01, "What comes back": "5n-10 is the most that any cutting of n corners takes". The room that the program gives each
+// pair.
 pub const ROOM: usize = 5 * MOST_CORNERS - 10;
 
-// The longest line of the program: two digits for A0, for the count of pieces and for each byte of the room, and the line feed.
+// The longest line of the program: two digits for A0, for the count of pieces and for each byte of the room, and the
+// line feed.
 pub const LONGEST_LINE: usize = 2 * (2 + ROOM) + 1;

@@ -26,10 +26,12 @@ module _ {first second : List ℤ} where
         let failed = subst (FirstFailed (of-drawing 3 4 5 first)) (sym e) first-failed in
         record { numbered = inr (a, longer (of-drawing 3 4 5 first) (of-drawing 6 7 8 second) k lt failed) }
 
-    pub second-decides : (k k′ : ℕ) → k ≡ first-number r → k ≡ 0 → (s : Judged) → Judgement second s → k′ ≡ second-number s →
+    pub second-decides : (k k′ : ℕ) → k ≡ first-number r → k ≡ 0 → (s : Judged) → Judgement second s →
+        k′ ≡ second-number s →
         Checks first second k′
     second-decides k k′ e z s i e′ =
         let passed = subst (FirstFailed (of-drawing 3 4 5 first)) (sym e ∙ z) first-failed in
-        let failed = subst (FirstFailed (of-drawing 6 7 8 second)) (sym e′) (judged second-number refl (second-shaped a) s (why s i)) in
+        let failed = subst (FirstFailed (of-drawing 6 7 8 second)) (sym e′)
+        (judged second-number refl (second-shaped a) s (why s i)) in
         let hold = all-hold (of-drawing 3 4 5 first) (omega arith) passed in
         record { numbered = inr (a, put-in (of-drawing 3 4 5 first) (of-drawing 6 7 8 second) k′ hold failed) }

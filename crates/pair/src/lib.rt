@@ -1,5 +1,5 @@
-// The checks of a pair of drawings: lines 1 and 3 to 8 of 01's table ("What comes back"), in one call. What else is asked of a pair, and
-// where in the order, is the caller's.
+// The checks of a pair of drawings: lines 1 and 3 to 8 of 01's table ("What comes back"), in one call. What else is
+// asked of a pair, and where in the order, is the caller's.
 ghost use mathlib.Core.Path.{_≡_};
 ghost use Prim.Native.Nat.{_≤_};
 ghost use Rattle.drawing.specs.Judgement.{number-from};
@@ -45,8 +45,8 @@ fn number_from(from: u8, judged: drawing::Judged) -> u8
     }
 }
 
-// 01's number for a judgement of the first drawing, 3 to 5, or of the second, 6 to 8; of either, 1 where the list is no drawing and 0 where
-// it is sound.
+// 01's number for a judgement of the first drawing, 3 to 5, or of the second, 6 to 8; of either, 1 where the list is
+// no drawing and 0 where it is sound.
 pub fn number(which: Which, judged: drawing::Judged) -> u8
     ensures { λ r. ⌜ r ≡ number-of which judged ⌝ }
 {

@@ -1,5 +1,5 @@
-// Words and decimal numbers of a text, each looked for from a place on, and told with the place where the text goes on.
-// Nothing is asked of a place: from the end on there is no word, and no word tells no number.
+// Words and decimal numbers of a text, each looked for from a place on, and told with the place where the text goes
+// on. Nothing is asked of a place: from the end on there is no word, and no word tells no number.
 ghost use mathlib.Core.Path.{_≡_};
 ghost use mathlib.Core.Bool.{_&&_};
 ghost use Prim.Native.Nat.{_≤_};

@@ -1,5 +1,6 @@
--- Two plans that agree on n corners have the same valid cuttings, the same first one and the same result, byte for byte. (Sight is a proposition
--- about a drawing in one place, a cell or a test in another; other drawings may have the same sight.)
+-- Two plans that agree on n corners have the same valid cuttings, the same first one and the same result, byte for
+-- byte. (Sight is a proposition about a drawing in one place, a cell or a test in another; other drawings may have the
+-- same sight.)
 use mathlib.Core.Path.{_≡_, refl, sym, ap₂}
 use mathlib.Core.Logic.{inl, inr, _↔_, Iff·symm}
 use mathlib.Core.List.{List, [], _∷_}
@@ -36,7 +37,8 @@ agree-back a = record {
 pub layout-map : {c d : ℕ → List ℕ → Type 0} (l : List (List ℕ)) → ((S : List ℕ) → In S l → (x : ℕ) → c x S → d x S) →
     (bytes : List ℕ) → Layout c l bytes → Layout d l bytes
 layout-map [] f bytes h = h
-layout-map (S ∷ l) f bytes h = (h .0, h .1, f S (inl refl) (h .0) (h .2), h .3, layout-map l (λ Q i. f Q (inr i)) (h .1) (h .4))
+layout-map (S ∷ l) f bytes h =
+    (h .0, h .1, f S (inl refl) (h .0) (h .2), h .3, layout-map l (λ Q i. f Q (inr i)) (h .1) (h .4))
 
 weight-same : (w w′ : ℕ → ℕ → ℕ) → ((a b : ℕ) → w a b ≡ w′ a b) → (l : List (List ℕ)) → weight w l ≡ weight w′ l
 weight-same w w′ e [] = refl
@@ -73,7 +75,8 @@ module _ {n : ℕ} {p q : Plan} (A : Agree n p q) where
   pub layout-same : (C : Pairs) (bytes : List ℕ) → 3 ≤ n → ValidBy p n C →
       Layout (p .centre) (pieces n C) bytes → Layout (q .centre) (pieces n C) bytes
   layout-same C bytes three va =
-      layout-map (pieces n C) (λ S i x. A .centres S (pieces-regions n C three (va .uncrossed) S .0 i .small) x .0) bytes
+      layout-map (pieces n C)
+      (λ S i x. A .centres S (pieces-regions n C three (va .uncrossed) S .0 i .small) x .0) bytes
 
   pub given-same : 3 ≤ n → (before : List ℕ) (r : Result) → Given p n before r → Given q n before r
   given-same three before r g = record {

@@ -1,6 +1,6 @@
--- Pairs of corners as data: flat cells, a row for each corner that there may be (`row` of `limits`), however many there
--- are. A cell that is not 0 says that x sees y, in the array of a drawing, and that the pair x y is in the set, in the
--- array of a set of pairs.
+-- Pairs of corners as data: flat cells, a row for each corner that there may be (`row` of `limits`), however many
+-- there are. A cell that is not 0 says that x sees y, in the array of a drawing, and that the pair x y is in the set,
+-- in the array of a set of pairs.
 --
 --         y:  0  1  2  3  4  5   the hexagon cut along 0-2 and 2-5. Of a set of pairs only the cells
 --     x = 0   -  -  1  .  .  .   shown as . or 1 count, right of the diagonal and of its neighbours.
@@ -41,8 +41,8 @@ InBoth first second x y = Sees first x y × Sees second x y
 abbrev pub sight : List ℕ → List ℕ → ℕ → ℕ → Bool
 sight first second x y = filled first x y && filled second x y
 
--- the set of pairs: those a, b of no neighbours, a < b < row, whose cell is not 0. No other cell matters: neither those
--- of neighbours nor those below the diagonal.
+-- the set of pairs: those a, b of no neighbours, a < b < row, whose cell is not 0. No other cell matters: neither
+-- those of neighbours nor those below the diagonal.
 unfoldable pub marked : List ℕ → Pairs
 marked t a b = (ltb (suc a) b && ltb b row) && filled t a b
 

@@ -1,5 +1,5 @@
--- Centres and the layout of the answer: document 01, "Cuttings" (what a centre is, and which one is reported) and "What comes back" (the bytes of
--- a piece). `sees x y` is left open; 01 reads it as: x sees y in both drawings.
+-- Centres and the layout of the answer: document 01, "Cuttings" (what a centre is, and which one is reported) and
+-- "What comes back" (the bytes of a piece). `sees x y` is left open; 01 reads it as: x sees y in both drawings.
 -- These are the definitions that a reader has to believe, with the law that the layout fixes every byte.
 use mathlib.Core.Path.{_≡_, refl, sym, ap, ap₂, _∙_}
 use mathlib.Core.Logic.{_⊎_, inl, inr}
@@ -37,8 +37,8 @@ module _ (sees : ℕ → ℕ → Type 0) where
   lowest-or-zero-one S x y (inr h) (inl k) = absurd (h .0 (y, k .centre))
   lowest-or-zero-one S x y (inr h) (inr k) = h .1 ∙ sym (k .1)
 
--- "Each piece takes 2+k bytes: k, the centre, the k corners in rising order; pieces follow in the telling order." `centre c S` says that c is the
--- corner that stands in the centre's place of S: 01 has `Lowest sees` for it.
+-- "Each piece takes 2+k bytes: k, the centre, the k corners in rising order; pieces follow in the telling order."
+-- `centre c S` says that c is the corner that stands in the centre's place of S: 01 has `Lowest sees` for it.
 module _ (centre : ℕ → List ℕ → Type 0) where
   abbrev pub Layout : List (List ℕ) → List ℕ → Type 0
   Layout [] bytes = bytes ≡ []
@@ -57,6 +57,8 @@ abbrev pub size : List (List ℕ) → ℕ
 size [] = 0
 size (S ∷ l) = (2 + length S) + size l
 
-pub layout-size : (centre : ℕ → List ℕ → Type 0) (l : List (List ℕ)) (x : List ℕ) → Layout centre l x → length x ≡ size l
+pub layout-size : (centre : ℕ → List ℕ → Type 0) (l : List (List ℕ)) (x : List ℕ) →
+    Layout centre l x → length x ≡ size l
 layout-size centre [] x h = ap length h
-layout-size centre (S ∷ l) x h = omega (arith, ap length (h .3), length-append S (h .1), layout-size centre l (h .1) (h .4))
+layout-size centre (S ∷ l) x h =
+    omega (arith, ap length (h .3), length-append S (h .1), layout-size centre l (h .1) (h .4))

@@ -1,6 +1,7 @@
--- The first of the cheapest: of all things that P allows, one of the least cost, and of these the first by its run of numbers.
--- It may be found in two steps (`in-steps`): for every way to begin keep the best way to go on, then take the best beginning.
--- Trees, roads and pieces are all found so; it is why tables can be filled from narrow ranges to wide ones.
+-- The first of the cheapest: of all things that P allows, one of the least cost, and of these the first by its run of
+-- numbers. It may be found in two steps (`in-steps`): for every way to begin keep the best way to go on, then take the
+-- best beginning. Trees, roads and pieces are all found so; it is why tables can be filled from narrow ranges to wide
+-- ones.
 use mathlib.Core.Path.{_≡_, ap, subst}
 use mathlib.Core.Logic.{inl, inr}
 use mathlib.Core.List.{List, _++_}
@@ -59,16 +60,18 @@ module _ {A : Type 0} where
     }
 
 -- ---- in two steps
--- What R allows is made by a step a that P allows and a step b that Q allows after a. The costs add up, and the run of a comes
--- before the run of b, both after a front that is the same for all.
-pub record Steps {A B C : Type 0} (P : A → Type 0) (k : A → ℕ) (r : A → List ℕ) (Q : A → B → Type 0) (d : A → B → ℕ) (r′ : A → B → List ℕ)
+-- What R allows is made by a step a that P allows and a step b that Q allows after a. The costs add up, and the run of
+-- a comes before the run of b, both after a front that is the same for all.
+pub record Steps {A B C : Type 0} (P : A → Type 0) (k : A → ℕ) (r : A → List ℕ) (Q : A → B → Type 0) (d : A → B → ℕ)
+    (r′ : A → B → List ℕ)
     (join : A → B → C) (R : C → Type 0) (cost : C → ℕ) (run : C → List ℕ) (front : List ℕ) : Type 0 where
   pub splits : (t : C) → R t → (a : A) × (b : B) × P a × Q a b × (t ≡ join a b)
   pub joins : (a : A) (b : B) → P a → Q a b → R (join a b)
   pub costs : (a : A) (b : B) → P a → Q a b → cost (join a b) ≡ k a + d a b
   pub runs : (a : A) (b : B) → P a → Q a b → run (join a b) ≡ front ++ (r a ++ r′ a b)
 
-module _ {A B C : Type 0} {P : A → Type 0} {k : A → ℕ} {r : A → List ℕ} {Q : A → B → Type 0} {d : A → B → ℕ} {r′ : A → B → List ℕ}
+module _ {A B C : Type 0} {P : A → Type 0} {k : A → ℕ} {r : A → List ℕ} {Q : A → B → Type 0} {d : A → B → ℕ}
+    {r′ : A → B → List ℕ}
     {join : A → B → C} {R : C → Type 0} {cost : C → ℕ} {run : C → List ℕ} {front : List ℕ}
     (S : Steps P k r Q d r′ join R cost run front) where
   -- has a says whether one can go on after a, H a what that costs at least, and q a is the best way
@@ -85,22 +88,27 @@ module _ {A B C : Type 0} {P : A → Type 0} {k : A → ℕ} {r : A → List ℕ
         let o = outer .attained m in
         let i = inner p (o .0 .0) .attained (o .0 .1) in
         (S .joins p (q p) (o .0 .0) (i .0), omega (arith, o .1, i .1, S .costs p (q p) (o .0 .0) (i .0)));
-    first = λ m t n le. let o = S .splits t n in rw (o .4) (wins m (o .0) (o .1) (o .2) (o .3) (omega (arith, le, ap cost (o .4))));
+    first = λ m t n le. let o = S .splits t n in
+        rw (o .4) (wins m (o .0) (o .1) (o .2) (o .3) (omega (arith, le, ap cost (o .4))));
   }
     where
       Wins : A → B → Type 0
       Wins a b = Upto (join p (q p)) (join a b) (run (join p (q p))) (run (join a b))
 
       wins : h → (a : A) (b : B) → P a → Q a b → cost (join a b) ≤ v → Wins a b
-      wins m a b x y le = let i = inner a x .least b y in go (outer .first m a (x, i .0) (omega (arith, le, S .costs a b x y, i .1)))
+      wins m a b x y le =
+          let i = inner a x .least b y in
+          go (outer .first m a (x, i .0) (omega (arith, le, S .costs a b x y, i .1)))
         where
           o : (P p × has p) × (k p + H p ≡ v)
           o = outer .attained m
 
-          earlier : (a : A) (b : B) → P a → Q a b → Less (r p ++ r′ p (q p)) (r a ++ r′ a b) → Less (run (join p (q p))) (run (join a b))
+          earlier : (a : A) (b : B) → P a → Q a b → Less (r p ++ r′ p (q p)) (r a ++ r′ a b) →
+              Less (run (join p (q p))) (run (join a b))
           earlier a b x y l =
               let z = inner p (o .0 .0) .attained (o .0 .1) .0 in
-              rw (S .runs p (q p) (o .0 .0) z, S .runs a b x y) (less-prepend front (r p ++ r′ p (q p)) (r a ++ r′ a b) l)
+              rw (S .runs p (q p) (o .0 .0) z, S .runs a b x y)
+              (less-prepend front (r p ++ r′ p (q p)) (r a ++ r′ a b) l)
 
           -- of two that begin alike, the second steps decide
           alike : (b : B) → P p → Q p b → Upto (q p) b (r′ p (q p)) (r′ p b) → Wins p b
@@ -115,7 +123,8 @@ module _ {A B C : Type 0} {P : A → Type 0} {k : A → ℕ} {r : A → List ℕ
           go (inr l) = inr (earlier a b x y (less-append (r p) (r a) (r′ p (q p)) (r′ a b) l))
 
 -- two steps that do not depend on each other
-pub in-parts : {A B C : Type 0} {P : A → Type 0} {k : A → ℕ} {r : A → List ℕ} {Q : B → Type 0} {d : B → ℕ} {r′ : B → List ℕ}
+pub in-parts : {A B C : Type 0} {P : A → Type 0} {k : A → ℕ} {r : A → List ℕ} {Q : B → Type 0}
+    {d : B → ℕ} {r′ : B → List ℕ}
     {join : A → B → C} {R : C → Type 0} {cost : C → ℕ} {run : C → List ℕ} {front : List ℕ} →
     Steps P k r (λ a. Q) (λ a. d) (λ a. r′) join R cost run front → {h h′ : Type 0} {v v′ : ℕ} {p : A} {q : B} →
     Cheapest P k r h v p → Cheapest Q d r′ h′ v′ q → Cheapest R cost run (h × h′) (v + v′) (join p q)

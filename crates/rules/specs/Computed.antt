@@ -1,4 +1,5 @@
--- The cuttings of given corners, computed: the listing of the range 0..n-1 has the valid cuttings, and its pick is the answer.
+-- The cuttings of given corners, computed: the listing of the range 0..n-1 has the valid cuttings, and its pick is the
+-- answer.
 use mathlib.Core.Path.{_≡_, refl}
 use mathlib.Core.Bool.{Bool, true, false}
 use mathlib.Core.List.{List, [], _∷_, flatMap}
@@ -16,8 +17,10 @@ use Rattle.rules.specs.Pick.{pick, pick-best}
 
 module _ (cut? : ℕ → ℕ → Bool) (ok? : List ℕ → Bool) (m : ℕ) where
   -- a valid cutting of m + 1 corners is listed, by its tree
-  pub cutting-listed : 2 ≤ m → (C : Pairs) → Valid (cut cut? ok?) (ok cut? ok?) (suc m) C → In (tree (suc m) C) (listing cut? ok? 0 m)
-  cutting-listed le C va = listing-all cut? ok? 0 m (omega arith) .every (tree (suc m) C) (valid-tree (cut cut? ok?) (ok cut? ok?) m C le va)
+  pub cutting-listed : 2 ≤ m → (C : Pairs) → Valid (cut cut? ok?) (ok cut? ok?) (suc m) C →
+      In (tree (suc m) C) (listing cut? ok? 0 m)
+  cutting-listed le C va = listing-all cut? ok? 0 m (omega arith) .every (tree (suc m) C)
+      (valid-tree (cut cut? ok?) (ok cut? ok?) m C le va)
 
   -- and what is listed is a valid cutting, told as its tree is
   pub listed-cutting : 0 < m → (t : Tree) → In t (listing cut? ok? 0 m) →
@@ -28,12 +31,14 @@ module _ (cut? : ℕ → ℕ → Bool) (ok? : List ℕ → Bool) (m : ℕ) where
 
   -- where nothing is listed, no cutting is valid
   pub none-listed : 2 ≤ m → listing cut? ok? 0 m ≡ [] → (C : Pairs) → ¬ Valid (cut cut? ok?) (ok cut? ok?) (suc m) C
-  none-listed le e C va = listing-none cut? ok? 0 m (omega arith) e (tree (suc m) C) (valid-tree (cut cut? ok?) (ok cut? ok?) m C le va)
+  none-listed le e C va =
+      listing-none cut? ok? 0 m (omega arith) e (tree (suc m) C) (valid-tree (cut cut? ok?) (ok cut? ok?) m C le va)
 
   -- where something is, the pick is the first of the lightest cuttings
   pub pick-first : (w : ℕ → ℕ → ℕ) → 0 < m → (t : Tree) → pick w 0 m (listing cut? ok? 0 m) ≡ t → Node t →
       First (cut cut? ok?) (ok cut? ok?) w (suc m) (uses 0 t) × (pieces (suc m) (uses 0 t) ≡ told 0 t)
-  pick-first w lt t e k = best-first (cut cut? ok?) (ok cut? ok?) w m t (rw e at (pick-best cut? ok? w 0 m lt (rw e k)))
+  pick-first w lt t e k =
+      best-first (cut cut? ok?) (ok cut? ok?) w m t (rw e at (pick-best cut? ok? w 0 m lt (rw e k)))
 
 -- ---- tried: five corners, all pairs allowed, pieces of three corners only; and no piece at all
 three? : List ℕ → Bool

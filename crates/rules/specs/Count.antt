@@ -1,5 +1,5 @@
--- How many pieces a cutting has, and how many bytes they take. 01: "there is one piece more than there are cuts"; "Each piece takes 2+k bytes";
--- "5n-10 is the most that any cutting of n corners takes".
+-- How many pieces a cutting has, and how many bytes they take. 01: "there is one piece more than there are cuts";
+-- "Each piece takes 2+k bytes"; "5n-10 is the most that any cutting of n corners takes".
 use mathlib.Core.Path.{_≡_, refl, sym, ap, ap₂, _∙_, subst}
 use mathlib.Core.Bool.{_&&_}
 use mathlib.Core.Logic.{inl, inr, ⊎-elim, _↔_}
@@ -10,7 +10,8 @@ use lib.ListN.{length, length-append, length-map}
 use lib.Dec.{T, eqb, ltb, eqb→eq, ltb→lt, lt→ltb}
 use mir.Facts.{and-yes, yes-and}
 use Rattle.rules.specs.Lists.{In, Distinct, Rise, rise-le, rise-from, rise-last}
-use Rattle.rules.specs.Cutting.{Pairs, Cross, Inner, Uncrossed, Joined, Near, Region, Tree, corners, below, told, tree, pieces, flat, last}
+use Rattle.rules.specs.Cutting.{Pairs, Cross, Inner, Uncrossed, Joined, Near, Region}
+use Rattle.rules.specs.Cutting.{Tree, corners, below, told, tree, pieces, flat, last}
 use Rattle.rules.specs.Centre.{size}
 use Rattle.rules.specs.Trees.{Node, rise-is-last}
 use Rattle.rules.specs.TreeOf.{TreeOf, of-rise, of-unique}
@@ -94,7 +95,8 @@ one-more n C le un = record {
     listed : (a b : ℕ) → T (C a b) → In (a, b) (map ends (below 0 t))
     listed a b c =
         let f = pair-line n C un le a b c in
-        rw (closes a b (f .0) (f .1)) at (in-map ends (a ∷ corners (f .0)) (below 0 t) (stands-told 0 t a b (f .0) (f .1)))
+        rw (closes a b (f .0) (f .1)) at
+        (in-map ends (a ∷ corners (f .0)) (below 0 t) (stands-told 0 t a b (f .0) (f .1)))
 
 -- ---- the bytes
 -- three for each triangle
@@ -104,7 +106,8 @@ flat-threes (S ∷ l) f = omega (arith, length-append S (flat l), f S (inl refl)
 
 module _ (n : ℕ) (C : Pairs) (le : 3 ≤ n) (un : Uncrossed n C) where
   no-neighbours : Wide C
-  no-neighbours = record { apart = λ a b c. let i = un .inner a b c in not-next a b (i .rises) (λ e. i .no-side (inl e)) }
+  no-neighbours =
+      record { apart = λ a b c. let i = un .inner a b c in not-next a b (i .rises) (λ e. i .no-side (inl e)) }
     where
       not-next : (a b : ℕ) → a < b → ¬ (b ≡ suc a) → suc a < b
       not-next a b lt ne = omega arith
@@ -144,12 +147,20 @@ module _ (n : ℕ) where
       inner : (a b : ℕ) → T (fan n a b) → Inner n a b
       inner a b h =
           let p = fan-is a b h in
-          record { rises = omega arith; small = omega arith; no-side = ⊎-elim (λ e. omega arith) (λ e. omega (arith, e .1)) }
+          record {
+            rises = omega arith;
+            small = omega arith;
+            no-side = ⊎-elim (λ e. omega arith) (λ e. omega (arith, e .1));
+          }
 
       apart : (a b c d : ℕ) → T (fan n a b) → T (fan n c d) → Cross a b c d → ⊥
-      apart a b c d h k = let p = fan-is a b h in let q = fan-is c d k in ⊎-elim (λ l. omega (arith, l .0)) (λ l. omega (arith, l .0))
+      apart a b c d h k =
+          let p = fan-is a b h in
+          let q = fan-is c d k in
+          ⊎-elim (λ l. omega (arith, l .0)) (λ l. omega (arith, l .0))
 
-  -- a region of the fan has corner 0, for its closing line begins there; and of its others only two, for each one between has its own line to 0
+  -- a region of the fan has corner 0, for its closing line begins there; and of its others only two, for each one
+  -- between has its own line to 0
   fan-three : (S : List ℕ) → Region n (fan n) S → length S ≡ 3
   fan-three [] R = absurd (omega (arith, R .three))
   fan-three (a ∷ []) R = absurd (omega (arith, R .three))
@@ -190,4 +201,5 @@ module _ (n : ℕ) where
 -- 5n-10 is taken: no smaller room is enough for every cutting of n corners
 pub room-taken : (n : ℕ) → 3 ≤ n → size (pieces n (fan n)) + 10 ≡ 5 * n
 room-taken n le =
-    triangles-take n (fan n) le (fan-uncrossed n) (λ S i. fan-three n S (pieces-regions n (fan n) le (fan-uncrossed n) S .0 i))
+    triangles-take n (fan n) le (fan-uncrossed n)
+    (λ S i. fan-three n S (pieces-regions n (fan n) le (fan-uncrossed n) S .0 i))

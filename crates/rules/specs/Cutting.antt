@@ -1,5 +1,5 @@
--- Cuttings: document 01, "Cuttings", first and second paragraph, sentence by sentence. (Centres and the layout of the bytes: `Centre`.)
--- These are the definitions that a reader has to believe; the theorems of this crate are about them.
+-- Cuttings: document 01, "Cuttings", first and second paragraph, sentence by sentence. (Centres and the layout of the
+-- bytes: `Centre`.) These are the definitions that a reader has to believe; the theorems of this crate are about them.
 --
 -- Three things are left open, and everything is stated for all of them:
 --   cut a b   may the pair a < b be a cut         (01: its corners see each other in both drawings)
@@ -40,7 +40,8 @@ pub record Uncrossed (n : ℕ) (C : Pairs) : Type 0 where
   pub apart : (a b c d : ℕ) → T (C a b) → T (C c d) → ¬ Cross a b c d
 
 -- ---- "Its pieces are the regions left, each named by its corners in rising order"
--- No corner is set apart: round a region, neighbours are joined, by a side or by a pair of the set, and no other two of its corners are.
+-- No corner is set apart: round a region, neighbours are joined, by a side or by a pair of the set, and no other two
+-- of its corners are.
 abbrev pub Joined : ℕ → Pairs → ℕ → ℕ → Type 0
 Joined n C x y = Side n x y ⊎ T (C x y)
 
@@ -68,8 +69,8 @@ pub record Valid (cut : ℕ → ℕ → Type 0) (ok : List ℕ → Type 0) (n : 
   pub allowed : (S : List ℕ) → Region n C S → ok S
 
 -- ---- "A range is told by its piece, and a piece by the ranges under its lines"
--- What stands on a line: a side (`leaf`), or a range, by the corners of its piece after the first: the next corner, what stands under the line to
--- it, and the rest. At the end of a piece `leaf` says that its last corner is reached.
+-- What stands on a line: a side (`leaf`), or a range, by the corners of its piece after the first: the next corner,
+-- what stands under the line to it, and the rest. At the end of a piece `leaf` says that its last corner is reached.
 pub data Tree : Type 0 where
   leaf : Tree
   link : ℕ → Tree → Tree → Tree
@@ -78,7 +79,8 @@ abbrev pub corners : Tree → List ℕ
 corners leaf = []
 corners (link b u r) = b ∷ corners r
 
--- "first the piece of the range": of the range from a with the tree t, in front of what is told under its lines; a side has none
+-- "first the piece of the range": of the range from a with the tree t, in front of what is told under its lines; a
+-- side has none
 abbrev pub topped : ℕ → Tree → List (List ℕ) → List (List ℕ)
 topped a leaf l = []
 topped a (link b u r) l = (a ∷ b ∷ corners r) ∷ l
@@ -91,18 +93,20 @@ below a (link b u r) = topped a u (below a u) ++ below b r
 abbrev pub told : ℕ → Tree → List (List ℕ)
 told a t = topped a t (below a t)
 
--- "A range i..j has one piece on its closing line ij. Under each other line of that piece stands a smaller range, or a side."
--- The furthest corner below top that a is joined to: a's next corner in the piece on a line from a to top.
+-- "A range i..j has one piece on its closing line ij. Under each other line of that piece stands a smaller range, or a
+-- side." The furthest corner below top that a is joined to: a's next corner in the piece on a line from a to top.
 abbrev pub furthest : Pairs → ℕ → ℕ → ℕ
 furthest C a zero = suc a
 furthest C a (suc t) = elim (C a t) [ true ↦ t | false ↦ furthest C a t ]
 
--- the piece from a on to its last corner j, where a's next corner is below top, with what stands under its lines; f bounds the depth
+-- the piece from a on to its last corner j, where a's next corner is below top, with what stands under its lines; f
+-- bounds the depth
 abbrev pub chain : Pairs → ℕ → ℕ → ℕ → ℕ → Tree
 chain C zero a top j = leaf
 chain C (suc f) a top j =
     elim (ltb a j) [
-      | true ↦ link (furthest C a top) (elim (ltb (suc a) (furthest C a top)) [ true ↦ chain C f a (furthest C a top) (furthest C a top) | false ↦ leaf ])
+      | true ↦ link (furthest C a top) (elim (ltb (suc a) (furthest C a top))
+          [ true ↦ chain C f a (furthest C a top) (furthest C a top) | false ↦ leaf ])
           (chain C f (furthest C a top) (suc j) j)
       | false ↦ leaf
     ]

@@ -1,4 +1,5 @@
--- Where `sees` is a Boolean test, centres are computed: whether a piece has one, which is the lowest, and the bytes of an answer.
+-- Where `sees` is a Boolean test, centres are computed: whether a piece has one, which is the lowest, and the bytes of
+-- an answer.
 use mathlib.Core.Path.{_≡_, refl, sym, subst}
 use mathlib.Core.Bool.{Bool, true, false, not, _&&_, _||_}
 use mathlib.Core.Logic.{inl, inr, ⊎-map, _↔_}
@@ -50,7 +51,8 @@ module _ (p : ℕ → Bool) where
   passes-some [] y i h = absurd i
   passes-some (x ∷ s) y i h = go (p x) refl i (λ k. passes-some s y k h)
     where
-      go : (b : Bool) → p x ≡ b → In y (x ∷ s) → (In y s → T (some p s)) → T (elim b [ true ↦ true | false ↦ some p s ])
+      go : (b : Bool) → p x ≡ b → In y (x ∷ s) → (In y s → T (some p s)) →
+          T (elim b [ true ↦ true | false ↦ some p s ])
       go true e i f = tt
       go false e (inl q) f = absurd (subst T e (subst (λ z. T (p z)) q h))
       go false e (inr k) f = f k
@@ -60,7 +62,8 @@ module _ (p : ℕ → Bool) where
   first-lowest [] r y i h = absurd i
   first-lowest (x ∷ s) r y i h = go (p x) refl i (λ k. first-lowest s (r .1) y k h)
     where
-      go : (b : Bool) → p x ≡ b → In y (x ∷ s) → (In y s → first p s ≤ y) → (elim b [ true ↦ x | false ↦ first p s ]) ≤ y
+      go : (b : Bool) → p x ≡ b → In y (x ∷ s) → (In y s → first p s ≤ y) →
+          (elim b [ true ↦ x | false ↦ first p s ]) ≤ y
       go true e (inl q) f = omega arith
       go true e (inr k) f = omega (arith, r .0 y k)
       go false e (inl q) f = absurd (subst T e (subst (λ z. T (p z)) q h))
@@ -82,8 +85,10 @@ module _ (sees : ℕ → ℕ → Bool) where
   is-centre S h = let k = some-first (λ x. all (sees x) S) S h in (k .0, all-passes (sees (centre S)) S (k .1))
 
   pub has-centre : (S : List ℕ) → T (hasCentre S) ↔ HasCentre (Seen sees) S
-  has-centre S =
-      (λ h. (centre S, is-centre S h), λ c. passes-some (λ x. all (sees x) S) S (c .0) (c .1 .0) (passes-all (sees (c .0)) S (c .1 .1)))
+  has-centre S = (
+    λ h. (centre S, is-centre S h),
+    λ c. passes-some (λ x. all (sees x) S) S (c .0) (c .1 .0) (passes-all (sees (c .0)) S (c .1 .1)),
+  )
 
   pub centre-lowest : (S : List ℕ) → Rising S → HasCentre (Seen sees) S → Lowest (Seen sees) (centre S) S
   centre-lowest S r h = record {
@@ -126,7 +131,8 @@ lowest-or-zero-map {sees} {sees′} same x S = ⊎-map low none
     none h = ((λ k. h .0 (k .0, from (k .0) (k .1))), h .1)
 
 -- where there is a centre the lowest is shown
-pub lowest-or-zero-lowest : (sees : ℕ → ℕ → Type 0) (x : ℕ) (S : List ℕ) → HasCentre sees S → LowestOrZero sees x S → Lowest sees x S
+pub lowest-or-zero-lowest : (sees : ℕ → ℕ → Type 0) (x : ℕ) (S : List ℕ) → HasCentre sees S →
+    LowestOrZero sees x S → Lowest sees x S
 lowest-or-zero-lowest sees x S has (inl h) = h
 lowest-or-zero-lowest sees x S has (inr h) = absurd (h .0 has)
 

@@ -1,5 +1,5 @@
--- The lines of a tree, and what stands on them. The pieces told below a chain are those that stand on its lines, and each is told once; in an
--- allowed tree the lines do not cross.
+-- The lines of a tree, and what stands on them. The pieces told below a chain are those that stand on its lines, and
+-- each is told once; in an allowed tree the lines do not cross.
 use mathlib.Core.Path.{_≡_, refl, subst}
 use mathlib.Core.Logic.{_⊎_, inl, inr, ⊎-elim}
 use mathlib.Core.List.{List, _∷_}
@@ -31,8 +31,10 @@ pub stands-told : (a : ℕ) (t : Tree) (x y : ℕ) (v : Tree) → Stands a t x y
 stands-told a leaf x y v h = h
 stands-told a (link b u r) x y v (inl h) =
     in-left (x ∷ corners v) (told a u) (below b r) (rw (h .1, h .3) (top-told a u (below a u) (h .0)))
-stands-told a (link b u r) x y v (inr (inl h)) = in-left (x ∷ corners v) (told a u) (below b r) (below-told a u _ (stands-told a u x y v h))
-stands-told a (link b u r) x y v (inr (inr h)) = in-right (x ∷ corners v) (told a u) (below b r) (stands-told b r x y v h)
+stands-told a (link b u r) x y v (inr (inl h)) =
+    in-left (x ∷ corners v) (told a u) (below b r) (below-told a u _ (stands-told a u x y v h))
+stands-told a (link b u r) x y v (inr (inr h)) =
+    in-right (x ∷ corners v) (told a u) (below b r) (stands-told b r x y v h)
 
 -- S is the piece on a line under the chain
 pub record Piece (a : ℕ) (t : Tree) (S : List ℕ) : Type 0 where
@@ -42,7 +44,8 @@ pub record Piece (a : ℕ) (t : Tree) (S : List ℕ) : Type 0 where
   pub stands : Stands a t x y v
   pub is : S ≡ x ∷ corners v
 
-pub top-cases : (a : ℕ) (u : Tree) (l : List (List ℕ)) (S : List ℕ) → In S (topped a u l) → (Node u × (S ≡ a ∷ corners u)) ⊎ In S l
+pub top-cases : (a : ℕ) (u : Tree) (l : List (List ℕ)) (S : List ℕ) → In S (topped a u l) →
+    (Node u × (S ≡ a ∷ corners u)) ⊎ In S l
 top-cases a leaf l S i = absurd i
 top-cases a (link b u r) l S (inl e) = inl (tt, e)
 top-cases a (link b u r) l S (inr i) = inr i
@@ -50,7 +53,8 @@ top-cases a (link b u r) l S (inr i) = inr i
 pub told-stands : (a : ℕ) (t : Tree) (S : List ℕ) → In S (below a t) → Piece a t S
 told-stands a leaf S i = absurd i
 told-stands a (link b u r) S i =
-    ⊎-elim (λ k. ⊎-elim first (λ q. deeper (told-stands a u S q)) (top-cases a u (below a u) S k)) (λ k. later (told-stands b r S k))
+    ⊎-elim (λ k. ⊎-elim first (λ q. deeper (told-stands a u S q)) (top-cases a u (below a u) S k))
+    (λ k. later (told-stands b r S k))
     (in-split S (told a u) (below b r) i)
   where
     first : Node u × (S ≡ a ∷ corners u) → Piece a (link b u r) S
@@ -77,37 +81,47 @@ module _ (cut : ℕ → ℕ → Type 0) (ok : List ℕ → Type 0) where
 
   line-placed : (a b : ℕ) (u : Tree) → Node u → Line cut ok a b u → Placed a b a b u
   line-placed a b leaf k h = absurd k
-  line-placed a b (link c v r) k h = record { low = omega arith; high = omega arith; allowed = h .0; range = (h .1, h .2) }
+  line-placed a b (link c v r) k h =
+      record { low = omega arith; high = omega arith; allowed = h .0; range = (h .1, h .2) }
 
-  pub line-chain : (a b : ℕ) (u : Tree) (x y : ℕ) (v : Tree) → Line cut ok a b u → Stands a u x y v → Chain cut ok a b u
+  pub line-chain : (a b : ℕ) (u : Tree) (x y : ℕ) (v : Tree) → Line cut ok a b u → Stands a u x y v →
+      Chain cut ok a b u
   line-chain a b leaf x y v h s = absurd s
   line-chain a b (link c w r) x y v h s = h .2
 
   wider : (a j a′ j′ x y : ℕ) (v : Tree) → a′ ≤ a → j ≤ j′ → Placed a j x y v → Placed a′ j′ x y v
-  wider a j a′ j′ x y v l m p = record { low = omega (arith, p .low); high = omega (arith, p .high); allowed = p .allowed; range = p .range }
+  wider a j a′ j′ x y v l m p =
+      record { low = omega (arith, p .low); high = omega (arith, p .high); allowed = p .allowed; range = p .range }
 
-  pub stands-in : (a j : ℕ) (t : Tree) → Chain cut ok a j t → (x y : ℕ) (v : Tree) → Stands a t x y v → Placed a j x y v
+  pub stands-in : (a j : ℕ) (t : Tree) → Chain cut ok a j t → (x y : ℕ) (v : Tree) →
+      Stands a t x y v → Placed a j x y v
   stands-in a j leaf h x y v s = absurd s
   stands-in a j (link b u r) h x y v (inl s) =
-      rw (s .1, s .2, s .3) (wider a b a j a b u (omega arith) (chain-le cut ok b j r (h .2)) (line-placed a b u (s .0) (h .1)))
+      rw (s .1, s .2, s .3)
+      (wider a b a j a b u (omega arith) (chain-le cut ok b j r (h .2)) (line-placed a b u (s .0) (h .1)))
   stands-in a j (link b u r) h x y v (inr (inl s)) =
-      wider a b a j x y v (omega arith) (chain-le cut ok b j r (h .2)) (stands-in a b u (line-chain a b u x y v (h .1) s) x y v s)
-  stands-in a j (link b u r) h x y v (inr (inr s)) = wider b j a j x y v (omega (arith, h .0)) (omega arith) (stands-in b j r (h .2) x y v s)
+      wider a b a j x y v (omega arith) (chain-le cut ok b j r (h .2))
+      (stands-in a b u (line-chain a b u x y v (h .1) s) x y v s)
+  stands-in a j (link b u r) h x y v (inr (inr s)) =
+      wider b j a j x y v (omega (arith, h .0)) (omega arith) (stands-in b j r (h .2) x y v s)
 
   -- no line under the closing line is the closing line
-  pub stands-proper : (i j : ℕ) (t : Tree) → Range cut ok i j t → (x y : ℕ) (v : Tree) → Stands i t x y v → x ≡ i → y < j
+  pub stands-proper : (i j : ℕ) (t : Tree) → Range cut ok i j t → (x y : ℕ) (v : Tree) →
+      Stands i t x y v → x ≡ i → y < j
   stands-proper i j leaf h x y v s e = absurd s
   stands-proper i j (link c u r) h x y v (inl s) e = omega (arith, h .0 .0, s .2)
   stands-proper i j (link c u r) h x y v (inr (inl s)) e =
       omega (arith, h .0 .0, stands-in i c u (line-chain i c u x y v (h .1 .1) s) x y v s .high)
-  stands-proper i j (link c u r) h x y v (inr (inr s)) e = absurd (omega (arith, h .1 .0, stands-in c j r (h .1 .2) x y v s .low))
+  stands-proper i j (link c u r) h x y v (inr (inr s)) e =
+      absurd (omega (arith, h .1 .0, stands-in c j r (h .1 .2) x y v s .low))
 
   -- two lines do not cross
   pub stands-apart : (a j : ℕ) (t : Tree) → Chain cut ok a j t → (x y x′ y′ : ℕ) (v v′ : Tree) →
       Stands a t x y v → Stands a t x′ y′ v′ → x < x′ → x′ < y → y < y′ → ⊥
   stands-apart a j leaf h x y x′ y′ v v′ s s′ l m o = s
   stands-apart a j (link b u r) h x y x′ y′ v v′ s s′ l m o =
-      go s s′ (λ c q q′. stands-apart a b u c x y x′ y′ v v′ q q′ l m o) (λ q q′. stands-apart b j r (h .2) x y x′ y′ v v′ q q′ l m o)
+      go s s′ (λ c q q′. stands-apart a b u c x y x′ y′ v v′ q q′ l m o)
+      (λ q q′. stands-apart b j r (h .2) x y x′ y′ v v′ q q′ l m o)
     where
       under : (x y : ℕ) (v : Tree) → Stands a u x y v → Placed a b x y v
       under x y v s = stands-in a b u (line-chain a b u x y v (h .1) s) x y v s
@@ -116,7 +130,8 @@ module _ (cut : ℕ → ℕ → Type 0) (ok : List ℕ → Type 0) where
       rest = stands-in b j r (h .2)
 
       go : Stands a (link b u r) x y v → Stands a (link b u r) x′ y′ v′ →
-          (Chain cut ok a b u → Stands a u x y v → Stands a u x′ y′ v′ → ⊥) → (Stands b r x y v → Stands b r x′ y′ v′ → ⊥) → ⊥
+          (Chain cut ok a b u → Stands a u x y v → Stands a u x′ y′ v′ → ⊥) →
+          (Stands b r x y v → Stands b r x′ y′ v′ → ⊥) → ⊥
       go (inl s) (inl s′) f g = omega (arith, s .1, s′ .1)
       go (inl s) (inr (inl s′)) f g = omega (arith, s .2, under x′ y′ v′ s′ .high)
       go (inl s) (inr (inr s′)) f g = omega (arith, s .2, rest x′ y′ v′ s′ .low)
@@ -141,21 +156,25 @@ module _ (cut : ℕ → ℕ → Type 0) (ok : List ℕ → Type 0) where
   -- a piece on or under the line a b begins before b
   early : (a b : ℕ) (u : Tree) → a < b → Line cut ok a b u → (S : List ℕ) → In S (told a u) →
       (x : ℕ) × (s : List ℕ) × (S ≡ x ∷ s) × (x < b)
-  early a b u lt h S k = ⊎-elim (λ p. (a, corners u, p .1, lt)) (λ q. deeper (told-stands a u S q)) (top-cases a u (below a u) S k)
+  early a b u lt h S k =
+      ⊎-elim (λ p. (a, corners u, p .1, lt)) (λ q. deeper (told-stands a u S q)) (top-cases a u (below a u) S k)
     where
       deeper : Piece a u S → (x : ℕ) × (s : List ℕ) × (S ≡ x ∷ s) × (x < b)
       deeper p =
-          let q = stands-in a b u (line-chain a b u (p .x) (p .y) (p .v) h (p .stands)) (p .x) (p .y) (p .v) (p .stands) in
+          let q =
+          stands-in a b u (line-chain a b u (p .x) (p .y) (p .v) h (p .stands)) (p .x) (p .y) (p .v) (p .stands) in
           (p .x, corners (p .v), p .is, omega (arith, q .high, range-wide (p .x) (p .y) (p .v) (q .range)))
 
-  line-distinct : (a b : ℕ) (u : Tree) → Line cut ok a b u → (Chain cut ok a b u → Distinct (below a u)) → Distinct (told a u)
+  line-distinct : (a b : ℕ) (u : Tree) → Line cut ok a b u → (Chain cut ok a b u → Distinct (below a u)) →
+      Distinct (told a u)
   line-distinct a b leaf h f = tt
   line-distinct a b (link c v r) h f = (top-apart a b (link c v r) (h .1, h .2), f (h .2))
 
   below-distinct : (a j : ℕ) (t : Tree) → Chain cut ok a j t → Distinct (below a t)
   below-distinct a j leaf h = tt
   below-distinct a j (link b u r) h =
-      distinct-append (told a u) (below b r) (line-distinct a b u (h .1) (below-distinct a b u)) (below-distinct b j r (h .2)) apart
+      distinct-append (told a u) (below b r) (line-distinct a b u (h .1) (below-distinct a b u))
+      (below-distinct b j r (h .2)) apart
     where
       apart : (S : List ℕ) → In S (told a u) → In S (below b r) → ⊥
       apart S i k =

@@ -6,7 +6,8 @@ use Prim.Native.Nat.{ℕ, suc, _≤_, _<_}
 use native.Mathlib.Omega.{arith}
 use lib.ListN.{length}
 
--- ---- members. A function and not a family, so that a proof goes by its two cases without an equation of lists to solve.
+-- ---- members. A function and not a family, so that a proof goes by its two cases without an equation of lists to
+-- solve.
 module _ {A : Type 0} where
   abbrev pub In : A → List A → Type 0
   In x [] = ⊥
@@ -27,7 +28,8 @@ module _ {A : Type 0} where
   in-split x (y ∷ s) t (inr h) = ⊎-map inr (λ k. k) (in-split x s t h)
 
   -- what holds of the members of both parts holds of those of the whole
-  pub in-both : (P : A → Type 0) (s t : List A) → ((x : A) → In x s → P x) → ((x : A) → In x t → P x) → (x : A) → In x (s ++ t) → P x
+  pub in-both : (P : A → Type 0) (s t : List A) → ((x : A) → In x s → P x) → ((x : A) → In x t → P x) → (x : A) →
+      In x (s ++ t) → P x
   in-both P s t f g x h = ⊎-elim (f x) (g x) (in-split x s t h)
 
   -- ---- each member once
@@ -37,7 +39,10 @@ module _ {A : Type 0} where
 
   pub distinct-append : (l m : List A) → Distinct l → Distinct m → ((x : A) → In x l → In x m → ⊥) → Distinct (l ++ m)
   distinct-append [] m dl dm f = dm
-  distinct-append (x ∷ l) m dl dm f = (λ i. ⊎-elim (dl .0) (f x (inl refl)) (in-split x l m i), distinct-append l m (dl .1) dm (λ y i k. f y (inr i) k))
+  distinct-append (x ∷ l) m dl dm f = (
+    λ i. ⊎-elim (dl .0) (f x (inl refl)) (in-split x l m i),
+    distinct-append l m (dl .1) dm (λ y i k. f y (inr i) k),
+  )
 
   without : (y : A) (l : List A) → In y l → List A
   without y [] h = []
@@ -68,7 +73,8 @@ pigeon f (x ∷ l) m d into inj =
       arith,
       length-without (f x) m h,
       pigeon f l (without (f x) m h) (d .1)
-          (λ y i. in-without (f x) (f y) m h (into y (inr i)) (λ e. d .0 (subst (λ z. In z l) (inj y x (inr i) (inl refl) e) i)))
+          (λ y i. in-without (f x) (f y) m h (into y (inr i))
+          (λ e. d .0 (subst (λ z. In z l) (inj y x (inr i) (inl refl) e) i)))
           (λ y z i k e. inj y z (inr i) (inr k) e),
     )
 
@@ -79,16 +85,20 @@ Rising (a ∷ s) = ((z : ℕ) → In z s → a < z) × Rising s
 
 pub rising-append : (s t : List ℕ) → Rising s → Rising t → ((x y : ℕ) → In x s → In y t → x < y) → Rising (s ++ t)
 rising-append [] t r r′ f = r′
-rising-append (x ∷ s) t r r′ f =
-    (in-both (λ z. x < z) s t (r .0) (λ z i. f x z (inl refl) i), rising-append s t (r .1) r′ (λ y z i k. f y z (inr i) k))
+rising-append (x ∷ s) t r r′ f = (
+  in-both (λ z. x < z) s t (r .0) (λ z i. f x z (inl refl) i),
+  rising-append s t (r .1) r′ (λ y z i k. f y z (inr i) k),
+)
 
 -- rising lists with the same members are the same
-pub rising-ext : (s t : List ℕ) → Rising s → Rising t → ((z : ℕ) → In z s → In z t) → ((z : ℕ) → In z t → In z s) → s ≡ t
+pub rising-ext : (s t : List ℕ) → Rising s → Rising t → ((z : ℕ) → In z s → In z t) →
+    ((z : ℕ) → In z t → In z s) → s ≡ t
 rising-ext [] [] r r′ f g = refl
 rising-ext [] (y ∷ t) r r′ f g = absurd (g y (inl refl))
 rising-ext (x ∷ s) [] r r′ f g = absurd (f x (inl refl))
 rising-ext (x ∷ s) (y ∷ t) r r′ f g =
-    ap₂ _∷_ same (rising-ext s t (r .1) (r′ .1) (λ z i. drop y t z (omega (arith, r .0 z i, same)) (f z (inr i))) (λ z i. drop x s z (omega (arith, r′ .0 z i, same)) (g z (inr i))))
+    ap₂ _∷_ same (rising-ext s t (r .1) (r′ .1) (λ z i. drop y t z (omega (arith, r .0 z i, same)) (f z (inr i)))
+    (λ z i. drop x s z (omega (arith, r′ .0 z i, same)) (g z (inr i))))
   where
     least : (x y : ℕ) (t : List ℕ) → ((z : ℕ) → In z t → y < z) → In x (y ∷ t) → y ≤ x
     least x y t h (inl e) = omega arith

@@ -96,12 +96,14 @@ module _ (cut : ℕ → ℕ → Type 0) (ok : List ℕ → Type 0) where
 
   -- two trees on one line, where those with the same piece are compared by what stands below
   line-differ : (a b : ℕ) (u u′ : Tree) → Bare a b u → Bare a b u′ →
-      (Chain cut ok a b u → Chain cut ok a b u′ → corners u ≡ corners u′ → Differ u u′ (runBelow a u) (runBelow a u′)) → Differ u u′ (runLine a u) (runLine a u′)
+      (Chain cut ok a b u → Chain cut ok a b u′ → corners u ≡ corners u′ →
+      Differ u u′ (runBelow a u) (runBelow a u′)) → Differ u u′ (runLine a u) (runLine a u′)
   line-differ a b leaf leaf h h′ f = inl refl
   line-differ a b leaf (link c u r) h h′ f = absurd (omega arith)
   line-differ a b (link c u r) leaf h h′ f = absurd (omega arith)
   line-differ a b (link c u r) (link c′ u′ r′) h h′ f =
-      go (f (h .1) (h′ .1)) (rise-differ a b _ _ (chain-rise cut ok a b (link c u r) (h .1)) (chain-rise cut ok a b (link c′ u′ r′) (h′ .1)))
+      go (f (h .1) (h′ .1))
+      (rise-differ a b _ _ (chain-rise cut ok a b (link c u r) (h .1)) (chain-rise cut ok a b (link c′ u′ r′) (h′ .1)))
     where
       t : Tree
       t = link c u r
@@ -109,26 +111,35 @@ module _ (cut : ℕ → ℕ → Type 0) (ok : List ℕ → Type 0) where
       t′ : Tree
       t′ = link c′ u′ r′
 
-      same : corners t ≡ corners t′ → Differ t t′ (runBelow a t) (runBelow a t′) → Differ t t′ (runLine a t) (runLine a t′)
+      same : corners t ≡ corners t′ → Differ t t′ (runBelow a t) (runBelow a t′) →
+          Differ t t′ (runLine a t) (runLine a t′)
       same e (inl p) = inl p
       same e (inr d) =
-          inr (subst (λ x. Less ((a ∷ x) ++ runBelow a t) (runLine a t′) ⊎ Less (runLine a t′) ((a ∷ x) ++ runBelow a t)) (sym e)
-          (⊎-map (less-prepend (a ∷ corners t′) (runBelow a t) (runBelow a t′)) (less-prepend (a ∷ corners t′) (runBelow a t′) (runBelow a t)) d))
+          inr (subst
+          (λ x. Less ((a ∷ x) ++ runBelow a t) (runLine a t′) ⊎ Less (runLine a t′) ((a ∷ x) ++ runBelow a t)) (sym e)
+          (⊎-map (less-prepend (a ∷ corners t′) (runBelow a t) (runBelow a t′))
+          (less-prepend (a ∷ corners t′) (runBelow a t′) (runBelow a t)) d))
 
-      go : (corners t ≡ corners t′ → Differ t t′ (runBelow a t) (runBelow a t′)) → Differ (corners t) (corners t′) (corners t) (corners t′) →
+      go : (corners t ≡ corners t′ → Differ t t′ (runBelow a t) (runBelow a t′)) →
+          Differ (corners t) (corners t′) (corners t) (corners t′) →
           Differ t t′ (runLine a t) (runLine a t′)
       go g (inl e) = same e (g e)
       go g (inr d) =
-          inr (⊎-map (λ l. less-append (a ∷ corners t) (a ∷ corners t′) (runBelow a t) (runBelow a t′) (inr (refl, l))) (λ l. less-append (a ∷ corners t′) (a ∷ corners t) (runBelow a t′) (runBelow a t) (inr (refl, l))) d)
+          inr (⊎-map (λ l. less-append (a ∷ corners t) (a ∷ corners t′) (runBelow a t) (runBelow a t′) (inr (refl, l)))
+          (λ l. less-append (a ∷ corners t′) (a ∷ corners t) (runBelow a t′) (runBelow a t) (inr (refl, l))) d)
 
   -- two links to the same corner
-  link-differ : (a b : ℕ) (u u′ r r′ : Tree) → Differ u u′ (runLine a u) (runLine a u′) → Differ r r′ (runBelow b r) (runBelow b r′) →
+  link-differ : (a b : ℕ) (u u′ r r′ : Tree) → Differ u u′ (runLine a u) (runLine a u′) →
+      Differ r r′ (runBelow b r) (runBelow b r′) →
       Differ (link b u r) (link b u′ r′) (runBelow a (link b u r)) (runBelow a (link b u′ r′))
-  link-differ a b u u′ r r′ (inr d) k = inr (⊎-map (less-append (runLine a u) (runLine a u′) (runBelow b r) (runBelow b r′)) (less-append (runLine a u′) (runLine a u) (runBelow b r′) (runBelow b r)) d)
+  link-differ a b u u′ r r′ (inr d) k = inr (⊎-map (less-append (runLine a u) (runLine a u′) (runBelow b r)
+      (runBelow b r′)) (less-append (runLine a u′) (runLine a u) (runBelow b r′) (runBelow b r)) d)
   link-differ a b u u′ r r′ (inl p) (inl q) = inl (cc)
-  link-differ a b u u′ r r′ (inl p) (inr d) = inr (rw p (⊎-map (less-prepend (runLine a u′) (runBelow b r) (runBelow b r′)) (less-prepend (runLine a u′) (runBelow b r′) (runBelow b r)) d))
+  link-differ a b u u′ r r′ (inl p) (inr d) = inr (rw p (⊎-map (less-prepend (runLine a u′) (runBelow b r)
+      (runBelow b r′)) (less-prepend (runLine a u′) (runBelow b r′) (runBelow b r)) d))
 
-  chain-differ : (a j : ℕ) (t t′ : Tree) → Chain cut ok a j t → Chain cut ok a j t′ → corners t ≡ corners t′ → Differ t t′ (runBelow a t) (runBelow a t′)
+  chain-differ : (a j : ℕ) (t t′ : Tree) → Chain cut ok a j t → Chain cut ok a j t′ → corners t ≡ corners t′ →
+      Differ t t′ (runBelow a t) (runBelow a t′)
   chain-differ a j leaf leaf h h′ e = inl refl
   chain-differ a j leaf (link b u r) h h′ e = absurd (omega (arith, ap length e))
   chain-differ a j (link b u r) leaf h h′ e = absurd (omega (arith, ap length e))
@@ -142,16 +153,20 @@ module _ (cut : ℕ → ℕ → Type 0) (ok : List ℕ → Type 0) where
       (chain-differ b j r r′ (h .2) (k .2) q))
 
   -- of two different trees of one range the told runs differ, and one comes first
-  pub range-differ : (i j : ℕ) (t t′ : Tree) → Range cut ok i j t → Range cut ok i j t′ → Differ t t′ (flat (told i t)) (flat (told i t′))
+  pub range-differ : (i j : ℕ) (t t′ : Tree) → Range cut ok i j t → Range cut ok i j t′ →
+      Differ t t′ (flat (told i t)) (flat (told i t′))
   range-differ i j t t′ h h′ =
-      rw (run-line i t, run-line i t′) (line-differ i j t t′ (range-bare i j t h) (range-bare i j t′ h′) (chain-differ i j t t′))
+      rw (run-line i t, run-line i t′)
+      (line-differ i j t t′ (range-bare i j t h) (range-bare i j t′ h′) (chain-differ i j t t′))
 
   -- ---- the first of the lightest trees of a range
   module _ (w : ℕ → ℕ → ℕ) where
     pub record Best (i j : ℕ) (t : Tree) : Type 0 where
       pub fits : Range cut ok i j t
       pub least : (t′ : Tree) → Range cut ok i j t′ → total w i j t ≤ total w i j t′
-      pub first : (t′ : Tree) → Range cut ok i j t′ → total w i j t′ ≤ total w i j t → Upto t t′ (flat (told i t)) (flat (told i t′))
+      pub first : (t′ : Tree) → Range cut ok i j t′ → total w i j t′ ≤ total w i j t →
+          Upto t t′ (flat (told i t)) (flat (told i t′))
 
     pub best-unique : (i j : ℕ) (t t′ : Tree) → Best i j t → Best i j t′ → t ≡ t′
-    best-unique i j t t′ h h′ = upto-antisym t t′ (flat (told i t)) (flat (told i t′)) (h .first t′ (h′ .fits) (h′ .least t (h .fits))) (h′ .first t (h .fits) (h .least t′ (h′ .fits)))
+    best-unique i j t t′ h h′ = upto-antisym t t′ (flat (told i t)) (flat (told i t′))
+        (h .first t′ (h′ .fits) (h′ .least t (h .fits))) (h′ .first t (h .fits) (h .least t′ (h′ .fits)))

@@ -37,7 +37,8 @@ fits-fit top w val road i j x lt e =
     eqb-true (min top (min top (road x i x + road j x x) + w i j)) (val i j) e in
     omega (arith, q)
 
-pub fit-fits : (top : ℕ) (w val : ℕ → ℕ → ℕ) (road : ℕ → ℕ → ℕ → ℕ) (i j x : ℕ) → val i j < top → Fit w val road i j x →
+pub fit-fits : (top : ℕ) (w val : ℕ → ℕ → ℕ) (road : ℕ → ℕ → ℕ → ℕ) (i j x : ℕ) → val i j < top →
+    Fit w val road i j x →
     fits top w val (diag road) (λ y. road j y y) i j x ≡ true
 unfolding fits
 fit-fits top w val road i j x lt e =
@@ -55,8 +56,11 @@ module _ {top : ℕ} {w : ℕ → ℕ → ℕ} {cut : ℕ → ℕ → Type 0} {v
 
   pub piece-sights : (x : ℕ) (s : List ℕ) → PieceOf x s → Sights x
   piece-sights x s p =
-      let c = p .0 .1 in
-      (c .1 i (inl refl), c .1 x (c .0), c .1 j (inr (road-reaches (Way cut (May top val)) i j s (omega arith) (p .1))))
+      let c = p .0 .1 in (
+        c .1 i (inl refl),
+        c .1 x (c .0),
+        c .1 j (inr (road-reaches (Way cut (May top val)) i j s (omega arith) (p .1))),
+      )
 
   weighs : 0 < w i j
   weighs = solved .light .weighs i j (omega arith) jn

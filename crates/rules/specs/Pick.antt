@@ -54,7 +54,8 @@ module _ (w : ℕ → ℕ → ℕ) (i j : ℕ) where
       first′ u (inr k) le = P .first u k le
 
   -- and so is one that is not lighter and stands after t
-  picked-earlier : (t u p : Tree) (l : List Tree) → Before t u → total w i j t ≤ total w i j u → Picked (t ∷ l) p → Picked (t ∷ u ∷ l) p
+  picked-earlier : (t u p : Tree) (l : List Tree) → Before t u → total w i j t ≤ total w i j u → Picked (t ∷ l) p →
+      Picked (t ∷ u ∷ l) p
   picked-earlier t u p l b le P = record { member = wider (P .member); least = least′; first = first′ }
     where
       wider : In p (t ∷ l) → In p (t ∷ u ∷ l)
@@ -78,7 +79,8 @@ module _ (w : ℕ → ℕ → ℕ) (i j : ℕ) where
   lightest-picked : (t : Tree) (l : List Tree) → Sorted Before (t ∷ l) → Picked (t ∷ l) (lightest (total w i j t) t l)
   lightest-picked t [] s = picked-one t
   lightest-picked t (u ∷ l) s =
-      go (ltb (total w i j u) (total w i j t)) refl (lightest-picked u l (s .1)) (lightest-picked t l ((λ y k. s .0 y (inr k)), s .1 .1))
+      go (ltb (total w i j u) (total w i j t)) refl (lightest-picked u l (s .1))
+      (lightest-picked t l ((λ y k. s .0 y (inr k)), s .1 .1))
     where
       go : (b : Bool) → ltb (total w i j u) (total w i j t) ≡ b → Picked (u ∷ l) (lightest (total w i j u) u l) →
           Picked (t ∷ l) (lightest (total w i j t) t l) →
@@ -95,10 +97,15 @@ module _ (w : ℕ → ℕ → ℕ) (i j : ℕ) where
     pick-listed [] L h = absurd h
     pick-listed (t ∷ l) L h =
         let P = lightest-picked t l (L .sorted) in
-        record { fits = L .only _ (P .member); least = λ u r. P .least u (L .every u r); first = λ u r. P .first u (L .every u r) }
+        record {
+          fits = L .only _ (P .member);
+          least = λ u r. P .least u (L .every u r);
+          first = λ u r. P .first u (L .every u r);
+        }
 
 -- where the listing of a range is not empty, its pick is the best tree
-pub pick-best : (cut? : ℕ → ℕ → Bool) (ok? : List ℕ → Bool) (w : ℕ → ℕ → ℕ) (i j : ℕ) → i < j → Node (pick w i j (listing cut? ok? i j)) →
+pub pick-best : (cut? : ℕ → ℕ → Bool) (ok? : List ℕ → Bool) (w : ℕ → ℕ → ℕ) (i j : ℕ) → i < j →
+    Node (pick w i j (listing cut? ok? i j)) →
     Best (λ a b. T (cut? a b)) (λ S. T (ok? S)) w i j (pick w i j (listing cut? ok? i j))
 pick-best cut? ok? w i j lt h =
     pick-listed w i j (λ a b. T (cut? a b)) (λ S. T (ok? S)) (listing cut? ok? i j) (listing-all cut? ok? i j lt) h

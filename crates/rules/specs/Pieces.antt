@@ -1,4 +1,5 @@
--- Each piece of the tree of a set of pairs is a region of it. (Uncrossed or not; that all regions are told needs uncrossed pairs: `Regions`.)
+-- Each piece of the tree of a set of pairs is a region of it. (Uncrossed or not; that all regions are told needs
+-- uncrossed pairs: `Regions`.)
 use mathlib.Core.Path.{_≡_, refl, subst}
 use mathlib.Core.Logic.{inl, inr, ⊎-elim}
 use mathlib.Core.List.{List, _∷_}
@@ -18,7 +19,8 @@ module _ (C : Pairs) where
   from b j r h = rise-from b j (corners r) (of-rise C b (suc j) j r h)
 
   -- a pair of C between two corners of a chain is a line of it
-  of-inside : (a top j : ℕ) (t : Tree) → ChainOf C a top j t → (x y : ℕ) → In x (a ∷ corners t) → In y (a ∷ corners t) →
+  of-inside : (a top j : ℕ) (t : Tree) → ChainOf C a top j t → (x y : ℕ) → In x (a ∷ corners t) →
+      In y (a ∷ corners t) →
       x < y → T (C x y) → (x ≡ a → y < top) → Inside (a ∷ corners t) x y
   of-inside a top j leaf h x y (inl p) (inl q) lt c k = absurd (omega arith)
   of-inside a top j (link b u r) h x y (inl p) (inl q) lt c k = absurd (omega arith)
@@ -40,7 +42,8 @@ module _ (C : Pairs) where
       between f z (inr i) l m = f z i l m
 
   -- corners of a chain with none between are linked
-  of-linked : (a top j : ℕ) (t : Tree) → ChainOf C a top j t → (x y : ℕ) → In x (a ∷ corners t) → In y (a ∷ corners t) →
+  of-linked : (a top j : ℕ) (t : Tree) → ChainOf C a top j t → (x y : ℕ) → In x (a ∷ corners t) →
+      In y (a ∷ corners t) →
       x < y → Inside (a ∷ corners t) x y → Linked C x y
   of-linked a top j leaf h x y (inl p) (inl q) lt f = absurd (omega arith)
   of-linked a top j (link b u r) h x y (inl p) (inl q) lt f = absurd (omega arith)
@@ -50,14 +53,16 @@ module _ (C : Pairs) where
       same (yes l) = absurd (f b (inr (inl refl)) (omega (arith, h .0)) l)
       same (no l) = omega (arith, from b j r (h .4) y q)
   of-linked a top j (link b u r) h x y (inr p) (inl q) lt f = absurd (omega (arith, h .0, from b j r (h .4) x p))
-  of-linked a top j (link b u r) h x y (inr p) (inr q) lt f = of-linked b (suc j) j r (h .4) x y p q lt (λ z i. f z (inr i))
+  of-linked a top j (link b u r) h x y (inr p) (inr q) lt f =
+      of-linked b (suc j) j r (h .4) x y p q lt (λ z i. f z (inr i))
 
   node-three : (a b : ℕ) (t : Tree) → Node t → TreeOf C a b t → 3 ≤ length (a ∷ corners t)
   node-three a b leaf k h = absurd k
   node-three a b (link c u leaf) k h = absurd (omega (arith, h .1, h .4))
   node-three a b (link c u (link d v r)) k h = omega arith
 
-  pub piece-region : (n a b : ℕ) (t : Tree) → Node t → TreeOf C a b t → b < n → Joined n C a b → Region n C (a ∷ corners t)
+  pub piece-region : (n a b : ℕ) (t : Tree) → Node t → TreeOf C a b t → b < n → Joined n C a b →
+      Region n C (a ∷ corners t)
   piece-region n a b t k h hn closing = record {
     rising = rise-rising a b (corners t) ri;
     small = λ x i. omega (arith, within x i);
@@ -103,7 +108,8 @@ module _ (C : Pairs) where
   pub stands-of : (a top j : ℕ) (t : Tree) → ChainOf C a top j t → (x y : ℕ) (v : Tree) → Stands a t x y v →
       T (C x y) × Node v × TreeOf C x y v
   stands-of a top j leaf h x y v s = absurd s
-  stands-of a top j (link b u r) h x y v (inl s) = rw (s .1, s .2, s .3) (let p = line-node a b u (s .0) (h .3) in (p .0, s .0, p .1))
+  stands-of a top j (link b u r) h x y v (inl s) =
+      rw (s .1, s .2, s .3) (let p = line-node a b u (s .0) (h .3) in (p .0, s .0, p .1))
   stands-of a top j (link b u r) h x y v (inr (inl s)) =
       stands-of a b b u (line-node a b u (stands-node a u x y v s) (h .3) .1) x y v s
   stands-of a top j (link b u r) h x y v (inr (inr s)) = stands-of b (suc j) j r (h .4) x y v s

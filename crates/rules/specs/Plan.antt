@@ -1,5 +1,6 @@
--- A plan: what may be a cut, what may be a piece, what a piece weighs, and which corner stands in the centre's place of its bytes. `Cutting` and
--- `Centre` leave these open; document 01 fixes them once, in `stars`. What comes back is stated over a plan (`Result`).
+-- A plan: what may be a cut, what may be a piece, what a piece weighs, and which corner stands in the centre's place
+-- of its bytes. `Cutting` and `Centre` leave these open; document 01 fixes them once, in `stars`. What comes back is
+-- stated over a plan (`Result`).
 use mathlib.Core.Path.{_≡_}
 use mathlib.Core.List.{List}
 use Prim.Native.Nat.{ℕ}
@@ -27,8 +28,8 @@ Cuttable p n = (C : Pairs) × ValidBy p n C
 abbrev pub OneCentre : Plan → Type 0
 OneCentre p = (S : List ℕ) (x y : ℕ) → p .centre x S → p .centre y S → x ≡ y
 
--- 01's plan: "A cutting is valid when every piece has a centre"; with fewest pieces, each counting one; "The centre reported is the
--- lowest-numbered one." Which pairs may be cuts and who sees whom are two readings.
+-- 01's plan: "A cutting is valid when every piece has a centre"; with fewest pieces, each counting one; "The centre
+-- reported is the lowest-numbered one." Which pairs may be cuts and who sees whom are two readings.
 abbrev pub stars : (ℕ → ℕ → Type 0) → (ℕ → ℕ → Type 0) → Plan
 stars cut sees = record { cut = cut; piece = HasCentre sees; weight = one; centre = Lowest sees }
 

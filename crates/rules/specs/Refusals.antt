@@ -1,6 +1,7 @@
--- Numbered lines: document 01, "What comes back": "Checks run in the order of this table." A line is a number and what it asks. The number that
--- is given is that of the first line that fails, and 0 where none does. (Later tables have numbers that are no places in a list.)
--- `Line` and `FirstFailed` have to be believed; the laws say what a number shows of the lines.
+-- Numbered lines: document 01, "What comes back": "Checks run in the order of this table." A line is a number and what
+-- it asks. The number that is given is that of the first line that fails, and 0 where none does. (Later tables have
+-- numbers that are no places in a list.) `Line` and `FirstFailed` have to be believed; the laws say what a number
+-- shows of the lines.
 use mathlib.Core.Path.{_≡_, refl, sym, _∙_}
 use mathlib.Core.Logic.{_⊎_, inl, inr, _↔_}
 use mathlib.Core.List.{List, [], _∷_, _++_}
@@ -79,7 +80,8 @@ among (q ∷ l) k (inr h) = go (among l k (h .1))
 -- ---- lines that ask the same, each where those before it hold, give the same number
 pub data SameAsked : List Line → List Line → Type 1 where
   end : SameAsked [] []
-  same : {P Q : Type 0} {i : ℕ} {k l : List Line} → P ↔ Q → (P → SameAsked k l) → SameAsked (line i P ∷ k) (line i Q ∷ l)
+  same : {P Q : Type 0} {i : ℕ} {k l : List Line} → P ↔ Q → (P → SameAsked k l) →
+      SameAsked (line i P ∷ k) (line i Q ∷ l)
 
 pub same-failed : {k l : List Line} → SameAsked k l → (number : ℕ) → FirstFailed k number → FirstFailed l number
 same-failed end number f = f
@@ -96,4 +98,6 @@ sample-eleven P Q R p n = inr (p, inl (n, refl))
 
 sample-two : (P Q R : Type 0) (k : ℕ) → k ≡ 2 → FirstFailed (sample P Q R) k → P × Q
 unfolding sample
-sample-two P Q R k e f = let h = passed (line 1 P ∷ line 11 Q ∷ []) (line 2 R ∷ []) k (omega arith) f in (h .0 .0, h .0 .1 .0)
+sample-two P Q R k e f =
+    let h = passed (line 1 P ∷ line 11 Q ∷ []) (line 2 R ∷ []) k (omega arith) f in
+    (h .0 .0, h .0 .1 .0)

@@ -1,5 +1,6 @@
 -- The pieces told of a set of uncrossed pairs are its regions, each once. (01: "Its pieces are the regions left".)
--- Two regions with the same first and last corner are the same, and on each pair of the set there stands a piece of its tree.
+-- Two regions with the same first and last corner are the same, and on each pair of the set there stands a piece of
+-- its tree.
 use mathlib.Core.Path.{_≡_, refl, sym, ap, subst, _∙_}
 use mathlib.Core.Logic.{_⊎_, inl, inr, ⊎-elim, ⊎-map, _↔_}
 use mathlib.Core.List.{List, [], _∷_}
@@ -9,11 +10,14 @@ use native.Mathlib.Decide.{decLt}
 use lib.ListN.{length}
 use lib.Dec.{T}
 use Rattle.rules.specs.Lists.{In, Distinct, Rising, Rise, rise-le, rise-from, rise-last, rising-ext}
-use Rattle.rules.specs.Cutting.{Pairs, Inner, Uncrossed, Joined, Inside, Near, Region, Tree, leaf, link, corners, below, told, tree, pieces}
+use Rattle.rules.specs.Cutting.{Pairs, Inner, Uncrossed, Joined, Inside, Near, Region}
+use Rattle.rules.specs.Cutting.{Tree, leaf, link, corners, below, told, tree, pieces}
 use Rattle.rules.specs.Trees.{Node, Range}
 use Rattle.rules.specs.Order.{tri}
-use Rattle.rules.specs.TreeOf.{Linked, LineOf, ChainOf, TreeOf, of-rise, of-node, line-linked, tree-of, range-allowed}
-use Rattle.rules.specs.Lines.{Stands, top-told, below-told, stands-told, Piece, top-cases, told-stands, told-distinct}
+use Rattle.rules.specs.TreeOf.{Linked, LineOf, ChainOf, TreeOf, of-rise, of-node}
+use Rattle.rules.specs.TreeOf.{line-linked, tree-of, range-allowed}
+use Rattle.rules.specs.Lines.{Stands, top-told, below-told, stands-told, Piece}
+use Rattle.rules.specs.Lines.{top-cases, told-stands, told-distinct}
 use Rattle.rules.specs.Pieces.{piece-region, stands-of}
 
 -- ---- two regions with the same first and last corner are the same
@@ -32,7 +36,15 @@ straddle b j p [] h ge le = inl (inl (omega arith))
 straddle b j p (c ∷ s) h ge le = go (λ l. straddle b j c s (h .1) l le) (tri b p) (tri b c)
   where
     wider : Gap c b s → Gap p b (c ∷ s)
-    wider g = record { x = g .x; y = g .y; in-x = inr (g .in-x); in-y = inr (g .in-y); lower = g .lower; upper = g .upper; none = none }
+    wider g = record {
+      x = g .x;
+      y = g .y;
+      in-x = inr (g .in-x);
+      in-y = inr (g .in-y);
+      lower = g .lower;
+      upper = g .upper;
+      none = none;
+    }
       where
         none : Inside (p ∷ c ∷ s) (g .x) (g .y)
         none z (inl e) l m = omega (arith, h .0, rise-from c j s (h .1) (g .x) (g .in-x))
@@ -46,7 +58,8 @@ straddle b j p (c ∷ s) h ge le = go (λ l. straddle b j c s (h .1) l le) (tri 
         In b (p ∷ c ∷ s) ⊎ Gap p b (c ∷ s)
     go f (inl k) d = absurd (omega arith)
     go f (inr (inl k)) d = inl (inl k)
-    go f (inr (inr k)) (inl l) = inr (record { x = p; y = c; in-x = inl refl; in-y = inr (inl refl); lower = k; upper = l; none = here })
+    go f (inr (inr k)) (inl l) =
+        inr (record { x = p; y = c; in-x = inl refl; in-y = inr (inl refl); lower = k; upper = l; none = here })
     go f (inr (inr k)) (inr (inl e)) = inl (inr (inl e))
     go f (inr (inr k)) (inr (inr l)) = ⊎-map inr wider (f (omega arith))
 
@@ -62,33 +75,44 @@ middle a j (b ∷ []) h le = absurd (omega arith)
 middle a j (b ∷ c ∷ s) h le = (b, inr (inl refl), h .0, omega (arith, h .1 .0, rise-le c j s (h .1 .1)))
 
 module _ (n : ℕ) (C : Pairs) (un : Uncrossed n C) where
-  -- neighbours in a region with a number between them are a pair of C, unless they are the first corner of all and the last
-  gap-pair : (a : ℕ) (s : List ℕ) (b : ℕ) → Region n C (a ∷ s) → (g : Gap a b s) → ((g .x ≡ 0) × (suc (g .y) ≡ n) → ⊥) →
+  -- neighbours in a region with a number between them are a pair of C, unless they are the first corner of all and the
+  -- last
+  gap-pair : (a : ℕ) (s : List ℕ) (b : ℕ) → Region n C (a ∷ s) → (g : Gap a b s) →
+      ((g .x ≡ 0) × (suc (g .y) ≡ n) → ⊥) →
       T (C (g .x) (g .y))
-  gap-pair a s b R g f = go (R .lines (g .x) (g .y) (g .in-x) (g .in-y) (omega (arith, g .lower, g .upper)) .0 (inl (g .none)))
+  gap-pair a s b R g f =
+      go (R .lines (g .x) (g .y) (g .in-x) (g .in-y) (omega (arith, g .lower, g .upper)) .0 (inl (g .none)))
     where
       go : Joined n C (g .x) (g .y) → T (C (g .x) (g .y))
       go (inl (inl e)) = absurd (omega (arith, g .lower, g .upper))
       go (inl (inr e)) = absurd (f e)
       go (inr c) = c
 
-  -- S and S′ from a to j: what is in S is in S′. Else a corner z of S lies between two neighbours p, q of S′, so that they are a pair; then p and
-  -- q are in S too, for a line of S over one of them would cross that pair; and so they are neighbours in S, against z.
-  module _ (a j : ℕ) (s s′ : List ℕ) (ri : Rise a j s) (ri′ : Rise a j s′) (R : Region n C (a ∷ s)) (R′ : Region n C (a ∷ s′)) where
+  -- S and S′ from a to j: what is in S is in S′. Else a corner z of S lies between two neighbours p, q of S′, so that
+  -- they are a pair; then p and q are in S too, for a line of S over one of them would cross that pair; and so they
+  -- are neighbours in S, against z.
+  module _ (a j : ℕ) (s s′ : List ℕ) (ri : Rise a j s) (ri′ : Rise a j s′) (R : Region n C (a ∷ s))
+      (R′ : Region n C (a ∷ s′)) where
     within : (x : ℕ) → In x (a ∷ s) → (a ≤ x) × (x ≤ j)
     within = rise-from a j s ri
 
     module _ (z : ℕ) (i : In z (a ∷ s)) (g : Gap a z s′) where
       range : (a ≤ g .x) × (g .y ≤ j) × (j < n)
-      range =
-          (rise-from a j s′ ri′ (g .x) (g .in-x) .0, rise-from a j s′ ri′ (g .y) (g .in-y) .1, R .small j (rise-last a j s ri))
+      range = (
+        rise-from a j s′ ri′ (g .x) (g .in-x) .0,
+        rise-from a j s′ ri′ (g .y) (g .in-y) .1,
+        R .small j (rise-last a j s ri),
+      )
 
       -- p and q, the ends of the gap, are not those of S′
       no-ends : g .x ≡ a → g .y ≡ j → ⊥
-      no-ends e₀ e₁ = let m = middle a j s′ ri′ (R′ .three) in g .none (m .0) (m .1) (omega (arith, m .2)) (omega (arith, m .3))
+      no-ends e₀ e₁ =
+          let m = middle a j s′ ri′ (R′ .three) in
+          g .none (m .0) (m .1) (omega (arith, m .2)) (omega (arith, m .3))
 
       pair : T (C (g .x) (g .y))
-      pair = gap-pair a s′ z R′ g (λ e. no-ends (omega (arith, e .0, range .0)) (omega (arith, e .1, range .1, range .2)))
+      pair =
+          gap-pair a s′ z R′ g (λ e. no-ends (omega (arith, e .0, range .0)) (omega (arith, e .1, range .1, range .2)))
 
       -- two neighbours in S have z on one side
       side : (b : ℕ) (k : Gap a b s) → (z ≤ k .x) ⊎ (k .y ≤ z)
@@ -132,14 +156,16 @@ module _ (n : ℕ) (C : Pairs) (un : Uncrossed n C) where
               no-ends (omega (arith, f a (inl refl), range .0)) (omega (arith, f j (rise-last a j s ri), range .1))
 
     region-in : (z : ℕ) → In z (a ∷ s) → In z (a ∷ s′)
-    region-in z i = ⊎-elim (λ h. h) (λ g. absurd (no-gap z i g)) (straddle z j a s′ ri′ (within z i .0) (within z i .1))
+    region-in z i =
+        ⊎-elim (λ h. h) (λ g. absurd (no-gap z i g)) (straddle z j a s′ ri′ (within z i .0) (within z i .1))
 
   region-same : (a j a′ j′ : ℕ) (s s′ : List ℕ) → a ≡ a′ → j ≡ j′ → Rise a j s → Rise a′ j′ s′ →
       Region n C (a ∷ s) → Region n C (a′ ∷ s′) → (a ∷ s) ≡ (a′ ∷ s′)
   region-same a j a′ j′ s s′ e e′ ri ri′ R R′ =
       let q : Rise a j s′ = rw (e, e′) ri′ in
       let Q : Region n C (a ∷ s′) = rw e R′ in
-      rising-ext (a ∷ s) (a ∷ s′) (R .rising) (Q .rising) (region-in a j s s′ ri q R Q) (region-in a j s′ s q ri Q R) ∙ ap (_∷ s′) e
+      rising-ext (a ∷ s) (a ∷ s′) (R .rising) (Q .rising) (region-in a j s s′ ri q R Q)
+      (region-in a j s′ s q ri Q R) ∙ ap (_∷ s′) e
 
   -- ---- on each pair of C there stands a piece
   -- on the line a b or under it
@@ -171,12 +197,14 @@ module _ (n : ℕ) (C : Pairs) (un : Uncrossed n C) where
       go e (inr (inl l)) = absurd (i .no-side (inr (e, omega (arith, i .small))))
       go e (inr (inr l)) = absurd (omega (arith, i .small))
 
-  pair-stands : (a top j : ℕ) (t : Tree) → ChainOf C a top j t → (x y : ℕ) → a ≤ x → y ≤ j → T (C x y) → (x ≡ a → y < top) →
+  pair-stands : (a top j : ℕ) (t : Tree) → ChainOf C a top j t → (x y : ℕ) → a ≤ x → y ≤ j → T (C x y) →
+      (x ≡ a → y < top) →
       (v : Tree) × Stands a t x y v
   pair-stands a top j leaf h x y p q c k = absurd (omega (arith, wide x y c))
   pair-stands a top j (link b u r) h x y p q c k =
       go (decLt x b) (decLt b y)
-      (λ le. find-line a b u (h .3) x y p le (wide x y c) (λ o k′. pair-stands a b b u o x y p le c k′) (decLt a x) (decLt y b))
+      (λ le. find-line a b u (h .3) x y p le (wide x y c) (λ o k′. pair-stands a b b u o x y p le c k′)
+      (decLt a x) (decLt y b))
       (λ ge. pair-stands b (suc j) j r (h .4) x y ge q c (λ e. omega arith))
     where
       over : x < b → b < y → Dec (a < x) → Linked C a b → ⊥
@@ -187,7 +215,8 @@ module _ (n : ℕ) (C : Pairs) (un : Uncrossed n C) where
       go : Dec (x < b) → Dec (b < y) → (y ≤ b → (Node u × (x ≡ a) × (y ≡ b)) ⊎ ((v : Tree) × Stands a u x y v)) →
           (b ≤ x → (v : Tree) × Stands b r x y v) → (v : Tree) × Stands a (link b u r) x y v
       go (no l) d f g = let w = g (omega arith) in (w .0, inr (inr (w .1)))
-      go (yes l) (no m) f g = ⊎-elim (λ e. (u, inl (e .0, e .1, e .2, refl))) (λ w. (w .0, inr (inl (w .1)))) (f (omega arith))
+      go (yes l) (no m) f g =
+          ⊎-elim (λ e. (u, inl (e .0, e .1, e .2, refl))) (λ w. (w .0, inr (inl (w .1)))) (f (omega arith))
       go (yes l) (yes m) f g = absurd (over l m (decLt a x) (line-linked C a b u _ (h .3)))
 
   -- ---- the tree of C
@@ -200,7 +229,9 @@ module _ (n : ℕ) (C : Pairs) (un : Uncrossed n C) where
 
     -- its lines are the pairs of C, and under each stands the tree of C on it
     pub pair-line : (x y : ℕ) → T (C x y) → (v : Tree) × Stands 0 (tree n C) x y v
-    pair-line x y c = let p = pair-proper x y c in pair-stands 0 (n - 1) (n - 1) (tree n C) tree-is x y (omega arith) (p .0) c (p .1)
+    pair-line x y c =
+        let p = pair-proper x y c in
+        pair-stands 0 (n - 1) (n - 1) (tree n C) tree-is x y (omega arith) (p .0) c (p .1)
 
     pub line-pair : (x y : ℕ) (v : Tree) → Stands 0 (tree n C) x y v → T (C x y) × Node v × TreeOf C x y v
     line-pair = stands-of C 0 (n - 1) (n - 1) (tree n C) tree-is
@@ -214,14 +245,16 @@ module _ (n : ℕ) (C : Pairs) (un : Uncrossed n C) where
 
     told-region : (S : List ℕ) → In S (told 0 (tree n C)) → Region n C S
     told-region S i =
-        ⊎-elim (λ e. rw (e .1) top-region) (λ k. go (told-stands 0 (tree n C) S k)) (top-cases 0 (tree n C) (below 0 (tree n C)) S i)
+        ⊎-elim (λ e. rw (e .1) top-region) (λ k. go (told-stands 0 (tree n C) S k))
+        (top-cases 0 (tree n C) (below 0 (tree n C)) S i)
       where
         go : Piece 0 (tree n C) S → Region n C S
         go p = rw (p .is) (line-region (p .x) (p .y) (p .v) (line-pair (p .x) (p .y) (p .v) (p .stands)))
 
     region-told : (S : List ℕ) → Region n C S → In S (told 0 (tree n C))
     region-told [] R = absurd (omega (arith, R .three))
-    region-told (a ∷ s) R = go (R .lines a j (inl refl) (rise-last a j s ri) (omega (arith, mid .2, mid .3)) .0 (inr (rise-from a j s ri)))
+    region-told (a ∷ s) R =
+        go (R .lines a j (inl refl) (rise-last a j s ri) (omega (arith, mid .2, mid .3)) .0 (inr (rise-from a j s ri)))
       where
         t : Tree
         t = tree n C
@@ -237,14 +270,16 @@ module _ (n : ℕ) (C : Pairs) (un : Uncrossed n C) where
 
         top : a ≡ 0 → j ≡ n - 1 → In (a ∷ s) (told 0 t)
         top e₀ e₁ =
-            let e = region-same a j 0 (n - 1) s (corners t) e₀ e₁ ri (of-rise C 0 (n - 1) (n - 1) t tree-is) R top-region in
+            let e = region-same a j 0 (n - 1) s (corners t) e₀ e₁ ri
+            (of-rise C 0 (n - 1) (n - 1) t tree-is) R top-region in
             subst (λ S. In S (told 0 t)) (sym e) (top-told 0 t (below 0 t) tree-node)
 
         under : T (C a j) → In (a ∷ s) (told 0 t)
         under c =
             let f = pair-line a j c in
             let o = line-pair a j (f .0) (f .1) in
-            let e = region-same a j a j s (corners (f .0)) refl refl ri (of-rise C a j j (f .0) (o .2)) R (line-region a j (f .0) o) in
+            let e = region-same a j a j s (corners (f .0)) refl refl ri (of-rise C a j j (f .0) (o .2)) R
+            (line-region a j (f .0) o) in
             subst (λ S. In S (told 0 t)) (sym e) (below-told 0 t _ (stands-told 0 t a j (f .0) (f .1)))
 
         go : Joined n C a j → In (a ∷ s) (told 0 t)
@@ -256,7 +291,8 @@ module _ (n : ℕ) (C : Pairs) (un : Uncrossed n C) where
     pub tree-range : (cut : ℕ → ℕ → Type 0) (ok : List ℕ → Type 0) →
         ((a b : ℕ) → T (C a b) → cut a b) → ((S : List ℕ) → Region n C S → ok S) → Range cut ok 0 (n - 1) (tree n C)
     tree-range cut ok cuts allowed =
-        range-allowed C cut ok n (λ a b t k c lt o. (cuts a b c, allowed (a ∷ corners t) (line-region a b t (c, k, o))))
+        range-allowed C cut ok n
+        (λ a b t k c lt o. (cuts a b c, allowed (a ∷ corners t) (line-region a b t (c, k, o))))
         0 (n - 1) (tree n C) tree-node tree-is (omega arith) (allowed (0 ∷ corners (tree n C)) top-region)
 
     pub tree-all : Range (λ a b. Unit {0}) (λ S. Unit {0}) 0 (n - 1) (tree n C)

@@ -1,5 +1,6 @@
--- Renumbering by one corner, cuttings: cuttings go to cuttings and regions to regions, one to one. So there is a valid cutting by the new
--- numbers where there was one by the old, and the fewest pieces do not become more; once round, they are as few as before.
+-- Renumbering by one corner, cuttings: cuttings go to cuttings and regions to regions, one to one. So there is a valid
+-- cutting by the new numbers where there was one by the old, and the fewest pieces do not become more; once round,
+-- they are as few as before.
 use mathlib.Core.Path.{_≡_, refl, sym, subst}
 use mathlib.Core.Bool.{false, _&&_, _||_}
 use mathlib.Core.Logic.{inl, inr, _↔_, Iff·trans, ⊎-elim}
@@ -13,7 +14,8 @@ use Rattle.rules.specs.Lists.{In, pigeon, Rising}
 use Rattle.rules.specs.Cutting.{Pairs, Cross, Inner, Uncrossed, Joined, Near, Region, Valid, pieces, one, First}
 use Rattle.rules.specs.Trees.{weight-one}
 use Rattle.rules.specs.Regions.{pieces-regions, pieces-distinct}
-use Rattle.rules.specs.Turn.{back, New, in-back, small-back, rising-back, length-back, near-low, near-high, back-injective}
+use Rattle.rules.specs.Turn.{back, New, in-back, small-back, rising-back, length-back}
+use Rattle.rules.specs.Turn.{near-low, near-high, back-injective}
 
 -- the set by the new numbers: the pairs of C with corner n-1, which is now 0, and the others
 abbrev pub turn : ℕ → Pairs → Pairs
@@ -39,7 +41,8 @@ turn-inner n C un (suc x) (suc y) c =
       no-side = ⊎-elim (λ e. I .no-side (inl (omega arith))) (λ e. absurd (omega arith));
     }
 
-turn-apart : (n : ℕ) (C : Pairs) → Uncrossed n C → (a b c d : ℕ) → T (turn n C a b) → T (turn n C c d) → ¬ Cross a b c d
+turn-apart : (n : ℕ) (C : Pairs) → Uncrossed n C → (a b c d : ℕ) → T (turn n C a b) →
+    T (turn n C c d) → ¬ Cross a b c d
 turn-apart n C un a zero c d p q x = absurd p
 turn-apart n C un a (suc b) c zero p q x = absurd q
 turn-apart n C un zero (suc b) zero (suc d) p q x = ⊎-elim (λ e. omega arith) (λ e. omega arith) x
@@ -106,7 +109,8 @@ region-back n C S R = record {
         let new = R .lines (suc x) (suc y) (p .1) (q .1) (omega arith) in
         Iff·trans (near-low n S (R .rising) (R .small) x y (q .0)) (Iff·trans new (joined-low n C x y (q .0)))
 
--- ---- valid cuttings to valid cuttings, where the pairs that may be cuts and the lists that may be pieces go with the numbers
+-- ---- valid cuttings to valid cuttings, where the pairs that may be cuts and the lists that may be pieces go with the
+-- numbers
 pub record Carried (n : ℕ) (cut cut′ : ℕ → ℕ → Type 0) (ok ok′ : List ℕ → Type 0) : Type 0 where
   pub others : (a b : ℕ) → a < b → suc b < n → cut a b → cut′ (suc a) (suc b)
   pub last : (a b : ℕ) → a < b → suc b ≡ n → cut a b → cut′ 0 (suc a)
@@ -127,7 +131,8 @@ turn-valid n cut cut′ ok ok′ K C va = record {
         K .last y (n - 1) (I .rises) (omega arith) (va .cuts y (n - 1) c)
     line (suc x) (suc y) c =
         let d = and-l (C x y) (ltb (suc y) n) c in
-        K .others x y (va .uncrossed .inner x y d .rises) (ltb→lt (suc y) n (and-r (C x y) (ltb (suc y) n) c)) (va .cuts x y d)
+        K .others x y (va .uncrossed .inner x y d .rises)
+        (ltb→lt (suc y) n (and-r (C x y) (ltb (suc y) n) c)) (va .cuts x y d)
 
 -- where no cutting is valid by the new numbers, none was by the old
 pub turn-none : (n : ℕ) (cut cut′ : ℕ → ℕ → Type 0) (ok ok′ : List ℕ → Type 0) → Carried n cut cut′ ok ok′ →

@@ -1,5 +1,5 @@
--- What comes back: document 01, "What comes back", over any table of refusals and any plan. These definitions have to be believed; the theorem
--- is that they leave nothing open.
+-- What comes back: document 01, "What comes back", over any table of refusals and any plan. These definitions have to
+-- be believed; the theorem is that they leave nothing open.
 use mathlib.Core.Path.{_≡_, sym, ap, _∙_, subst}
 use mathlib.Core.List.{List, _++_}
 use Prim.Native.Nat.{ℕ, _<_}
@@ -12,7 +12,8 @@ use Rattle.rules.specs.Valid.{first-unique}
 use Rattle.rules.specs.Refusals.{Line, FirstFailed, failed-unique}
 use Rattle.rules.specs.Plan.{Plan, FirstBy, OneCentre}
 
--- "The result has a number, a count of pieces and a count of bytes used." With them, what is in the answer buffer then.
+-- "The result has a number, a count of pieces and a count of bytes used." With them, what is in the answer buffer
+-- then.
 pub record Result : Type 0 where
   pub number : ℕ
   pub count : ℕ
@@ -25,7 +26,8 @@ pub record Refused (before : List ℕ) (r : Result) : Type 0 where
   pub no-bytes : r .bytes ≡ 0
   pub kept : r .after ≡ before
 
--- the result carries some pieces: their count, their bytes in 01's layout, and "the bytes after those used keep their values"
+-- the result carries some pieces: their count, their bytes in 01's layout, and "the bytes after those used keep their
+-- values"
 pub record Carries (centre : ℕ → List ℕ → Type 0) (told : List (List ℕ)) (before : List ℕ) (r : Result) : Type 0 where
   pub laid : List ℕ
   pub layout : Layout centre told laid
@@ -46,10 +48,12 @@ pub record ComesBack (lines : List Line) (p : Plan) (n : ℕ) (before : List ℕ
   pub given : r .number ≡ 0 → Given p n before r
 
 -- ---- no second result
-result-is : (r s : Result) → r .number ≡ s .number → r .count ≡ s .count → r .bytes ≡ s .bytes → r .after ≡ s .after → r ≡ s
+result-is : (r s : Result) → r .number ≡ s .number → r .count ≡ s .count → r .bytes ≡ s .bytes →
+    r .after ≡ s .after → r ≡ s
 result-is r s k c b a = λ i. record { number = k i; count = c i; bytes = b i; after = a i }
 
-pub refused-unique : (before : List ℕ) (r s : Result) → r .number ≡ s .number → Refused before r → Refused before s → r ≡ s
+pub refused-unique : (before : List ℕ) (r s : Result) → r .number ≡ s .number → Refused before r →
+    Refused before s → r ≡ s
 refused-unique before r s e g h =
     result-is r s e (g .no-pieces ∙ sym (h .no-pieces)) (g .no-bytes ∙ sym (h .no-bytes)) (g .kept ∙ sym (h .kept))
 
@@ -64,7 +68,8 @@ carries-unique centre one told before r s e g h =
 module _ (p : Plan) (one : OneCentre p) (n : ℕ) (before : List ℕ) where
   pub given-unique : (r s : Result) → r .number ≡ s .number → Given p n before r → Given p n before s → r ≡ s
   given-unique r s e g h =
-      let same = first-unique (p .cut) (p .piece) (p .weight) n (g .cutting) (h .cutting) (g .is-first) (h .is-first) in
+      let same =
+      first-unique (p .cut) (p .piece) (p .weight) n (g .cutting) (h .cutting) (g .is-first) (h .is-first) in
       carries-unique (p .centre) one (pieces n (h .cutting)) before r s e
       (subst (λ q. Carries (p .centre) q before r) same (g .carries)) (h .carries)
 

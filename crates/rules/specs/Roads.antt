@@ -1,7 +1,7 @@
 -- For one centre: the cheapest road of corners that it sees, by its first step.
--- For each corner a the table holds what the cheapest road from a to the end j costs, and its next corner, the smallest on a tie;
--- then the road that the next corners lead along is the first of the cheapest. (Corners at which to split a road in the middle would
--- not give the first.)
+-- For each corner a the table holds what the cheapest road from a to the end j costs, and its next corner, the
+-- smallest on a tie; then the road that the next corners lead along is the first of the cheapest. (Corners at which to
+-- split a road in the middle would not give the first.)
 use mathlib.Core.Path.{_≡_, refl, sym, ap, subst}
 use mathlib.Core.Bool.{true, false}
 use mathlib.Core.Logic.{_⊎_, inl, inr}
@@ -21,7 +21,8 @@ module _ (way : ℕ → ℕ → Type 0) where
   road-split : (a x j : ℕ) (s : List ℕ) → Road way a j s → In x s →
       (s₁ : List ℕ) × (s₂ : List ℕ) × Road way a x s₁ × Road way x j s₂ × (s ≡ s₁ ++ s₂)
   road-split a x j [] r i = absurd i
-  road-split a x j (b ∷ s) r (inl e) = (b ∷ [], s, (r .0, r .1, sym e), subst (λ y. Road way y j s) (sym e) (r .2), refl)
+  road-split a x j (b ∷ s) r (inl e) =
+      (b ∷ [], s, (r .0, r .1, sym e), subst (λ y. Road way y j s) (sym e) (r .2), refl)
   road-split a x j (b ∷ s) r (inr i) =
       let p = road-split b x j s (r .2) i in
       (b ∷ p .0, p .1, (r .0, r .1, p .2), p .3, ap (b ∷_) (p .4))
@@ -30,7 +31,8 @@ module _ (way : ℕ → ℕ → Type 0) where
   road-join a x j [] t r r′ = rw r r′
   road-join a x j (b ∷ s) t r r′ = (r .0, r .1, road-join b x j s t (r .2) r′)
 
-  sum-join : (val : ℕ → ℕ → ℕ) (a x : ℕ) (s t : List ℕ) → Road way a x s → sum val a (s ++ t) ≡ sum val a s + sum val x t
+  sum-join : (val : ℕ → ℕ → ℕ) (a x : ℕ) (s t : List ℕ) → Road way a x s →
+      sum val a (s ++ t) ≡ sum val a s + sum val x t
   sum-join val a x [] t r = rw r (omega arith)
   sum-join val a x (b ∷ s) t r = omega (arith, sum-join val b x s t (r .2))
 
@@ -100,7 +102,8 @@ module _ (way : ℕ → ℕ → Type 0) (val : ℕ → ℕ → ℕ) (see : ℕ �
     first = λ k b p le. go b (λ lt. S .first k b (p .0 .0) lt (p .0 .2 .0) (p .0 .2 .1) (p .1)) le (tri b₀ b);
   }
     where
-      go : (b : ℕ) → (b < b₀ → v < val a b + H b) → val a b + H b ≤ v → (b₀ < b) ⊎ ((b₀ ≡ b) ⊎ (b < b₀)) → Upto b₀ b (b₀ ∷ []) (b ∷ [])
+      go : (b : ℕ) → (b < b₀ → v < val a b + H b) → val a b + H b ≤ v → (b₀ < b) ⊎ ((b₀ ≡ b) ⊎ (b < b₀)) →
+          Upto b₀ b (b₀ ∷ []) (b ∷ [])
       go b f le (inl lt) = inr (inl lt)
       go b f le (inr (inl e)) = inl e
       go b f le (inr (inr lt)) = absurd (omega (arith, f lt))
@@ -121,7 +124,8 @@ module _ (way : ℕ → ℕ → Type 0) (val : ℕ → ℕ → ℕ) (see : ℕ �
       splits (b ∷ s) p = (b, s, (p .0 .0, p .1, p .0 .1), (p .0 .2, road-head (Seen way see) b j s (p .0 .2)), refl)
 
   -- the step, and the best road from there
-  pub step-road : {has : ℕ → Type 0} {H : ℕ → ℕ} {q : ℕ → List ℕ} {a j top : ℕ} {h : Type 0} {v b₀ : ℕ} → a < j → top ≤ suc j →
+  pub step-road : {has : ℕ → Type 0} {H : ℕ → ℕ} {q : ℕ → List ℕ} {a j top : ℕ} {h : Type 0} {v b₀ : ℕ} →
+      a < j → top ≤ suc j →
       ((b : ℕ) → a < b → b ≤ j → see b → BestRoad b j (suc j) (has b) (H b) (q b)) →
       Step has H a top h v b₀ → BestRoad a j top h v (b₀ ∷ q b₀)
   step-road {has} {H} {q} {a} {j} {top} lt le F S =
@@ -149,11 +153,13 @@ module _ (way : ℕ → ℕ → Type 0) (val : ℕ → ℕ → ℕ) (see : ℕ �
     tails-end : (f a : ℕ) → a ≡ j → BestRoad a j (suc j) (has a) (H a) (path next j f a)
     tails-end f a e = rw (e, path-end next j f j (omega arith)) (end-road j (has j) (H j) (t .end-has) (t .end-val))
 
-    pub tails-road : (f a : ℕ) → lo ≤ a → a ≤ j → j ≤ a + f → see a → BestRoad a j (suc j) (has a) (H a) (path next j f a)
+    pub tails-road : (f a : ℕ) → lo ≤ a → a ≤ j → j ≤ a + f → see a →
+        BestRoad a j (suc j) (has a) (H a) (path next j f a)
     tails-road zero a la le hf sa = tails-end zero a (omega arith)
     tails-road (suc f) a la le hf sa = go (decLt a j) (tails-road f)
       where
-        go : Dec (a < j) → ((b : ℕ) → lo ≤ b → b ≤ j → j ≤ b + f → see b → BestRoad b j (suc j) (has b) (H b) (path next j f b)) →
+        go : Dec (a < j) →
+            ((b : ℕ) → lo ≤ b → b ≤ j → j ≤ b + f → see b → BestRoad b j (suc j) (has b) (H b) (path next j f b)) →
             BestRoad a j (suc j) (has a) (H a) (path next j (suc f) a)
         go (no ge) F = tails-end (suc f) a (omega arith)
         go (yes lt) F =
@@ -162,13 +168,22 @@ module _ (way : ℕ → ℕ → Type 0) (val : ℕ → ℕ → ℕ) (see : ℕ �
 
   -- ---- through a corner x: the best road to x, then the best from x on
   through-steps : (a x j : ℕ) → a < x →
-      Steps (SeenRoad way see a x (suc x)) (sum val a) (λ s. s) (λ s. SeenRoad way see x j (suc j)) (λ s. sum val x) (λ s t. t)
+      Steps (SeenRoad way see a x (suc x)) (sum val a) (λ s. s) (λ s. SeenRoad way see x j (suc j))
+      (λ s. sum val x) (λ s t. t)
       _++_ (λ s. Road (Seen way see) a j s × In x s) (sum val a) (λ s. s) []
   through-steps a x j lt = record {
     splits = λ s p.
-        let q = road-split (Seen way see) a x j s (p .0) (p .1) in
-        (q .0, q .1, (q .2, road-head (Seen way see) a x (q .0) (q .2)), (q .3, road-head (Seen way see) x j (q .1) (q .3)), q .4);
-    joins = λ s t p q. (road-join (Seen way see) a x j s t (p .0) (q .0), in-left x s t (road-reaches (Seen way see) a x s lt (p .0)));
+        let q = road-split (Seen way see) a x j s (p .0) (p .1) in (
+          q .0,
+          q .1,
+          (q .2, road-head (Seen way see) a x (q .0) (q .2)),
+          (q .3, road-head (Seen way see) x j (q .1) (q .3)),
+          q .4,
+        );
+    joins = λ s t p q. (
+      road-join (Seen way see) a x j s t (p .0) (q .0),
+      in-left x s t (road-reaches (Seen way see) a x s lt (p .0)),
+    );
     costs = λ s t p q. sum-join (Seen way see) val a x s t (p .0);
     runs = λ s t p q. refl;
   }

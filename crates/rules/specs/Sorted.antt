@@ -1,5 +1,5 @@
--- Listings: lists that have just the members they should, each once, in order; and how larger ones are made of smaller.
--- The first use: all rising lists of numbers with a given end, in order.
+-- Listings: lists that have just the members they should, each once, in order; and how larger ones are made of
+-- smaller. The first use: all rising lists of numbers with a given end, in order.
 use mathlib.Core.Path.{_≡_, refl, sym, ap, subst}
 use mathlib.Core.Bool.{Bool, true, false}
 use mathlib.Core.Logic.{_⊎_, inl, inr, ⊎-elim}
@@ -26,9 +26,11 @@ module _ {A : Type 0} (R : A → A → Type 0) where
   sorted-distinct irr [] s = tt
   sorted-distinct irr (x ∷ l) s = ((λ i. irr x (s .0 x i)), sorted-distinct irr l (s .1))
 
-sorted-as : {A : Type 0} (R S : A → A → Type 0) (l : List A) → Sorted R l → ((x y : A) → In x l → In y l → R x y → S x y) → Sorted S l
+sorted-as : {A : Type 0} (R S : A → A → Type 0) (l : List A) → Sorted R l →
+    ((x y : A) → In x l → In y l → R x y → S x y) → Sorted S l
 sorted-as R S [] s h = tt
-sorted-as R S (x ∷ l) s h = ((λ y i. h x y (inl refl) (inr i) (s .0 y i)), sorted-as R S l (s .1) (λ y z i k. h y z (inr i) (inr k)))
+sorted-as R S (x ∷ l) s h =
+    ((λ y i. h x y (inl refl) (inr i) (s .0 y i)), sorted-as R S l (s .1) (λ y z i k. h y z (inr i) (inr k)))
 
 -- ---- l lists what has P, in the order R
 pub record Listed {A : Type 0} (P : A → Type 0) (R : A → A → Type 0) (l : List A) : Type 0 where
@@ -47,12 +49,14 @@ module _ {A : Type 0} (P : A → Type 0) (R : A → A → Type 0) where
       only′ x (inl e) = subst P (sym e) h
 
   -- all or nothing
-  pub listed-if : (b : Bool) (l : List A) → (T b → Listed P R l) → ((x : A) → P x → T b) → Listed P R (elim b [ true ↦ l | false ↦ [] ])
+  pub listed-if : (b : Bool) (l : List A) → (T b → Listed P R l) → ((x : A) → P x → T b) →
+      Listed P R (elim b [ true ↦ l | false ↦ [] ])
   listed-if true l L f = L tt
   listed-if false l L f = listed-none f
 
   -- the same members, said otherwise
-  pub listed-as : (Q : A → Type 0) (S : A → A → Type 0) (l : List A) → Listed Q S l → ((x : A) → Q x → P x) → ((x : A) → P x → Q x) →
+  pub listed-as : (Q : A → Type 0) (S : A → A → Type 0) (l : List A) → Listed Q S l → ((x : A) → Q x → P x) →
+      ((x : A) → P x → Q x) →
       ((x y : A) → Q x → Q y → S x y → R x y) → Listed P R l
   listed-as Q S l L f g h = record {
     only = λ x i. f x (L .only x i);
@@ -61,7 +65,8 @@ module _ {A : Type 0} (P : A → Type 0) (R : A → A → Type 0) where
   }
 
   -- one listing after the other
-  listed-append : (Q S : A → Type 0) (l m : List A) → Listed Q R l → Listed S R m → ((x : A) → Q x → P x) → ((x : A) → S x → P x) →
+  listed-append : (Q S : A → Type 0) (l m : List A) → Listed Q R l → Listed S R m → ((x : A) → Q x → P x) →
+      ((x : A) → S x → P x) →
       ((x : A) → P x → Q x ⊎ S x) → ((x y : A) → Q x → S y → R x y) → Listed P R (l ++ m)
   listed-append Q S l m L M f g split cross = record {
     only = in-both P l m (λ x i. f x (L .only x i)) (λ x i. g x (M .only x i));
@@ -74,7 +79,8 @@ module _ {A B : Type 0} where
   unfolding flatMap
   in-flatMap f [] y i = absurd i
   in-flatMap f (x ∷ l) y i =
-      ⊎-elim (λ k. (x, inl refl, k)) (λ k. let p = in-flatMap f l y k in (p .0, inr (p .1), p .2)) (in-split y (f x) (flatMap f l) i)
+      ⊎-elim (λ k. (x, inl refl, k)) (λ k. let p = in-flatMap f l y k in (p .0, inr (p .1), p .2))
+      (in-split y (f x) (flatMap f l) i)
 
   flatMap-in : (f : A → List B) (l : List A) (x : A) (y : B) → In x l → In y (f x) → In y (flatMap f l)
   unfolding flatMap
@@ -84,32 +90,39 @@ module _ {A B : Type 0} where
 
   sorted-flatMap : (R : A → A → Type 0) (S : B → B → Type 0) (f : A → List B) (l : List A) → Sorted R l →
       ((x : A) → In x l → Sorted S (f x)) →
-      ((x x′ : A) → In x l → In x′ l → R x x′ → (y y′ : B) → In y (f x) → In y′ (f x′) → S y y′) → Sorted S (flatMap f l)
+      ((x x′ : A) → In x l → In x′ l → R x x′ → (y y′ : B) → In y (f x) → In y′ (f x′) → S y y′) →
+      Sorted S (flatMap f l)
   unfolding flatMap
   sorted-flatMap R S f [] s each cross = tt
   sorted-flatMap R S f (x ∷ l) s each cross =
       sorted-append S (f x) (flatMap f l) (each x (inl refl))
       (sorted-flatMap R S f l (s .1) (λ z i. each z (inr i)) (λ z z′ i k. cross z z′ (inr i) (inr k)))
-      (λ y y′ i k. let p = in-flatMap f l y′ k in cross x (p .0) (inl refl) (inr (p .1)) (s .0 (p .0) (p .1)) y y′ i (p .2))
+      (λ y y′ i k. let p = in-flatMap f l y′ k in
+      cross x (p .0) (inl refl) (inr (p .1)) (s .0 (p .0) (p .1)) y y′ i (p .2))
 
   -- a listing for each member of a listing, one after the other; `of y x` says that y is listed under x
-  pub listed-flatMap : (P : A → Type 0) (R : A → A → Type 0) (Q : B → Type 0) (S : B → B → Type 0) (of : B → A → Type 0) →
+  pub listed-flatMap : (P : A → Type 0) (R : A → A → Type 0) (Q : B → Type 0) (S : B → B → Type 0)
+      (of : B → A → Type 0) →
       (f : A → List B) (l : List A) → Listed P R l → ((x : A) → P x → Listed (λ y. Q y × of y x) S (f x)) →
       ((y : B) → Q y → (x : A) × P x × of y x) →
       ((x x′ : A) → R x x′ → (y y′ : B) → Q y → of y x → Q y′ → of y′ x′ → S y y′) → Listed Q S (flatMap f l)
   listed-flatMap P R Q S of f l L each under cross = record {
     only = λ y i. let p = in-flatMap f l y i in each (p .0) (L .only (p .0) (p .1)) .only y (p .2) .0;
-    every = λ y q. let p = under y q in flatMap-in f l (p .0) y (L .every (p .0) (p .1)) (each (p .0) (p .1) .every y (q, p .2));
+    every = λ y q. let p = under y q in
+        flatMap-in f l (p .0) y (L .every (p .0) (p .1)) (each (p .0) (p .1) .every y (q, p .2));
     sorted = sorted-flatMap R S f l (L .sorted) (λ x i. each x (L .only x i) .sorted)
-        (λ x x′ i i′ r y y′ k k′. apart x x′ r y y′ (each x (L .only x i) .only y k) (each x′ (L .only x′ i′) .only y′ k′));
+        (λ x x′ i i′ r y y′ k k′. apart x x′ r y y′ (each x (L .only x i) .only y k)
+        (each x′ (L .only x′ i′) .only y′ k′));
   }
     where
       apart : (x x′ : A) → R x x′ → (y y′ : B) → Q y × of y x → Q y′ × of y′ x′ → S y y′
       apart x x′ r y y′ p p′ = cross x x′ r y y′ (p .0) (p .1) (p′ .0) (p′ .1)
 
   -- what f makes of each member
-  pub listed-map : (P : A → Type 0) (R : A → A → Type 0) (Q : B → Type 0) (S : B → B → Type 0) (f : A → B) (l : List A) → Listed P R l →
-      ((x : A) → P x → Q (f x)) → ((y : B) → Q y → (x : A) × P x × (y ≡ f x)) → ((x x′ : A) → R x x′ → S (f x) (f x′)) →
+  pub listed-map : (P : A → Type 0) (R : A → A → Type 0) (Q : B → Type 0) (S : B → B → Type 0) (f : A → B)
+      (l : List A) → Listed P R l →
+      ((x : A) → P x → Q (f x)) → ((y : B) → Q y → (x : A) × P x × (y ≡ f x)) →
+      ((x x′ : A) → R x x′ → S (f x) (f x′)) →
       Listed Q S (flatMap (λ x. f x ∷ []) l)
   listed-map P R Q S f l L into from keeps =
       listed-flatMap P R Q S (λ y x. y ≡ f x) (λ x. f x ∷ []) l L
@@ -170,7 +183,9 @@ rises-more c j r lt L =
     rest (b ∷ s) h = (s, h .1, ap (_∷ s) (h .0))
 
 pub rises-all : (k c j : ℕ) → c + k ≡ j → Listed (From c j) Less (rises k c)
-rises-all zero c j e = let q : j ≡ c = omega arith in rw q (listed-one (From c c) Less (c ∷ []) (omega arith, refl) (from-only c))
+rises-all zero c j e =
+    let q : j ≡ c = omega arith in
+    rw q (listed-one (From c c) Less (c ∷ []) (omega arith, refl) (from-only c))
 rises-all (suc k) c j e = rises-more c j (rises k (suc c)) (omega arith) (rises-all k (suc c) j (omega arith))
 
 rises-2-1 : rises 2 1 ≡ (1 ∷ 2 ∷ 3 ∷ []) ∷ (1 ∷ 3 ∷ []) ∷ (2 ∷ 3 ∷ []) ∷ (3 ∷ []) ∷ []

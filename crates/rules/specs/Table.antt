@@ -1,7 +1,8 @@
--- A table with the Bellman property gives the first of the lightest trees of every range, and an entry wherever there is a tree.
--- For each line on which a range can stand it says whether it has an entry (`may`), a value (`val`) and a chosen piece (`choice`, its
--- corners after the first). The value is the least weight of a piece together with the values under its lines; the chosen piece is the
--- first that attains it. No program occurs here: whatever fills such a table has found the answer.
+-- A table with the Bellman property gives the first of the lightest trees of every range, and an entry wherever there
+-- is a tree. For each line on which a range can stand it says whether it has an entry (`may`), a value (`val`) and a
+-- chosen piece (`choice`, its corners after the first). The value is the least weight of a piece together with the
+-- values under its lines; the chosen piece is the first that attains it. No program occurs here: whatever fills such a
+-- table has found the answer.
 use mathlib.Core.Path.{_≡_, refl, sym, ap, subst}
 use mathlib.Core.Logic.{_⊎_, inl, inr}
 use mathlib.Core.List.{List, [], _∷_, _++_}
@@ -11,7 +12,8 @@ use native.Mathlib.Decide.{decLt}
 use lib.ListN.{length}
 use Rattle.rules.specs.Lists.{Rise, rise-le}
 use Rattle.rules.specs.Cutting.{Tree, leaf, link, corners}
-use Rattle.rules.specs.Trees.{Fit, Chain, Line, Range, chain-rise, range-line, line-range, runBelow, runLine, run-line, under, total}
+use Rattle.rules.specs.Trees.{Fit, Chain, Line, Range, chain-rise, range-line, line-range}
+use Rattle.rules.specs.Trees.{runBelow, runLine, run-line, under, total}
 use Rattle.rules.specs.Order.{Upto, Best}
 use Rattle.rules.specs.Cheapest.{Cheapest, Steps, cheapest-when, cheapest-map, in-steps, in-parts}
 
@@ -73,7 +75,8 @@ abbrev pub grown : (ℕ → ℕ → List ℕ) → ℕ → ℕ → Tree
 grown choice i j = grow choice (suc j) i j
 
 module _ {cut : ℕ → ℕ → Type 0} {ok : List ℕ → Type 0} {w : ℕ → ℕ → ℕ}
-    {may : ℕ → ℕ → Type 0} {val : ℕ → ℕ → ℕ} {choice : ℕ → ℕ → List ℕ} {n : ℕ} (table : Table cut ok w may val choice n) where
+    {may : ℕ → ℕ → Type 0} {val : ℕ → ℕ → ℕ} {choice : ℕ → ℕ → List ℕ} {n : ℕ}
+    (table : Table cut ok w may val choice n) where
   -- g a b is the first of the lightest trees on the line a b, and val a b its weight
   abbrev OnLine : (ℕ → ℕ → Tree) → ℕ → ℕ → Type 0
   OnLine g a b = Cheapest (Line cut ok a b) (total w a b) (runLine a) (Way cut may a b) (val a b) (g a b)
@@ -86,7 +89,8 @@ module _ {cut : ℕ → ℕ → Type 0} {ok : List ℕ → Type 0} {w : ℕ → 
   Along a j s t = Chain cut ok a j t × (s ≡ corners t)
 
   abbrev OnRoad : (ℕ → ℕ → Tree) → ℕ → ℕ → List ℕ → Type 0
-  OnRoad g a j s = Cheapest (Along a j s) (under w a) (runBelow a) (Road (Way cut may) a j s) (sum val a s) (walk g a s)
+  OnRoad g a j s =
+      Cheapest (Along a j s) (under w a) (runBelow a) (Road (Way cut may) a j s) (sum val a s) (walk g a s)
 
   -- a chain is its first line, then a chain with the other corners
   link-steps : (a b j : ℕ) (s : List ℕ) → a < b →
@@ -99,7 +103,8 @@ module _ {cut : ℕ → ℕ → Type 0} {ok : List ℕ → Type 0} {w : ℕ → 
     runs = λ u r l c. refl;
   }
     where
-      splits : (t : Tree) → Along a j (b ∷ s) t → (u : Tree) × (r : Tree) × Line cut ok a b u × Along b j s r × (t ≡ link b u r)
+      splits : (t : Tree) → Along a j (b ∷ s) t →
+          (u : Tree) × (r : Tree) × Line cut ok a b u × Along b j s r × (t ≡ link b u r)
       splits leaf h = absurd (omega (arith, ap length (h .1)))
       splits (link c u r) h =
           let e : b ≡ c = cc in
@@ -134,7 +139,8 @@ module _ {cut : ℕ → ℕ → Type 0} {ok : List ℕ → Type 0} {w : ℕ → 
       run leaf c = absurd (omega arith)
       run (link b u r) c = refl
 
-  -- ---- where the lines up to the width f are known, so are the ranges up to f + 1: each line of a piece is narrower than its range
+  -- ---- where the lines up to the width f are known, so are the ranges up to f + 1: each line of a piece is narrower
+  -- than its range
   module _ (f : ℕ) (g : ℕ → ℕ → Tree) (known : (a b : ℕ) → a < b → b < n → b ≤ a + f → OnLine g a b) where
     chains : (a j : ℕ) (s : List ℕ) (top : ℕ) → j < n → Head top s → top ≤ a + suc f → j ≤ a + suc f → OnRoad g a j s
     chains a j [] top hn hd ht hj = record { least = low; attained = λ e. ((e, refl), refl); first = λ e. only }
@@ -147,7 +153,8 @@ module _ {cut : ℕ → ℕ → Type 0} {ok : List ℕ → Type 0} {w : ℕ → 
         only leaf h k = inl refl
         only (link b u r) h k = absurd (omega (arith, ap length (h .1)))
     chains a j (b ∷ s) top hn hd ht hj =
-        cheapest-when (road-rise (Way cut may) a j (b ∷ s)) rises (λ q. more q (chains b j s (suc j) hn (rise-head b j s (q .1))))
+        cheapest-when (road-rise (Way cut may) a j (b ∷ s)) rises
+        (λ q. more q (chains b j s (suc j) hn (rise-head b j s (q .1))))
       where
         rises : (t : Tree) → Along a j (b ∷ s) t → Rise a j (b ∷ s)
         rises t h = subst (Rise a j) (sym (h .1)) (chain-rise cut ok a j t (h .0))
@@ -157,11 +164,14 @@ module _ {cut : ℕ → ℕ → Type 0} {ok : List ℕ → Type 0} {w : ℕ → 
             let lt = q .0 in
             let le = rise-le b j s (q .1) in
             cheapest-map (λ h. (lt, h .0, h .1)) (λ h. (h .1, h .2)) (λ t h. h) (λ t h. h)
-            (in-parts (link-steps a b j s lt) (known a b lt (omega arith) (omega arith)) (rest (omega arith) (omega arith)))
+            (in-parts (link-steps a b j s lt) (known a b lt (omega arith) (omega arith))
+            (rest (omega arith) (omega arith)))
 
-    ranges : (i j : ℕ) → suc i < j → j < n → j ≤ i + suc f → Closes cut n i j → OnRange (λ a b. walk g a (choice a b)) i j
+    ranges : (i j : ℕ) → suc i < j → j < n → j ≤ i + suc f → Closes cut n i j →
+        OnRange (λ a b. walk g a (choice a b)) i j
     ranges i j lt hn hf cl =
-        in-steps (range-steps i j (omega arith)) (λ s p. chains i j s j hn (p .0) (omega arith) (omega arith)) (table .range i j lt hn cl)
+        in-steps (range-steps i j (omega arith)) (λ s p. chains i j s j hn (p .0) (omega arith) (omega arith))
+        (table .range i j lt hn cl)
 
   side : (a : ℕ) → suc a < n → OnLine (λ a b. leaf) a (suc a)
   side a hn = record {
@@ -188,18 +198,20 @@ module _ {cut : ℕ → ℕ → Type 0} {ok : List ℕ → Type 0} {w : ℕ → 
       line-cut l leaf h = absurd (omega arith)
       line-cut l (link c u r) h = h .0
 
-      go : Dec (suc a < b) → (suc a < b → b < n → b ≤ a + suc f → Closes cut n a b → OnRange (grow choice (suc f)) a b) →
+      go : Dec (suc a < b) →
+          (suc a < b → b < n → b ≤ a + suc f → Closes cut n a b → OnRange (grow choice (suc f)) a b) →
           OnLine (grow choice (suc f)) a b
       go (no l) R =
           let e : b ≡ suc a = omega arith in
           rw (e, table .side-choice a (omega arith)) (side a (omega arith))
       go (yes l) R =
           cheapest-when (λ h. way-cut l h .0) (line-cut l) (λ c.
-          cheapest-map (λ m. inr (c, m)) (λ h. way-cut l h .1) (λ t. range-line cut ok a b t c) (λ t. line-range cut ok a b t l) (R l hn hf (inl c)))
+          cheapest-map (λ m. inr (c, m)) (λ h. way-cut l h .1) (λ t. range-line cut ok a b t c)
+          (λ t. line-range cut ok a b t l) (R l hn hf (inl c)))
 
   -- ---- the theorems
-  -- the tree grown from the table is the first of the lightest of its range and the value is its weight; where there is a tree there
-  -- is an entry
+  -- the tree grown from the table is the first of the lightest of its range and the value is its weight; where there
+  -- is a tree there is an entry
   pub table-cheapest : (i j : ℕ) → suc i < j → j < n → Closes cut n i j →
       Cheapest (Range cut ok i j) (total w i j) (runLine i) (may i j) (val i j) (grown choice i j)
   table-cheapest i j lt hn cl = ranges j (grow choice j) (lines j) i j lt hn (omega arith) cl
@@ -214,7 +226,8 @@ module _ {cut : ℕ → ℕ → Type 0} {ok : List ℕ → Type 0} {w : ℕ → 
         first = λ t h k. rw (run-line i (grown choice i j), run-line i t) (c .first m t h (omega (arith, a .1, k)));
       }
 
-  pub table-value : (i j : ℕ) → suc i < j → j < n → Closes cut n i j → may i j → total w i j (grown choice i j) ≡ val i j
+  pub table-value : (i j : ℕ) → suc i < j → j < n → Closes cut n i j → may i j →
+      total w i j (grown choice i j) ≡ val i j
   table-value i j lt hn cl m = table-cheapest i j lt hn cl .attained m .1
 
   -- no entry, no tree: where the table has none, no valid cutting exists

@@ -1,5 +1,6 @@
--- The tree of a set of pairs, as a relation: each piece goes from corner to corner by the furthest pair, and so on under each line.
--- `tree` of `Cutting` makes one, there is no other, and it is an allowed tree where its pairs and pieces are allowed.
+-- The tree of a set of pairs, as a relation: each piece goes from corner to corner by the furthest pair, and so on
+-- under each line. `tree` of `Cutting` makes one, there is no other, and it is an allowed tree where its pairs and
+-- pieces are allowed.
 use mathlib.Core.Path.{_≡_, refl, sym, subst}
 use mathlib.Core.Bool.{Bool, true, false}
 use mathlib.Core.Logic.{_⊎_, inl, inr}
@@ -29,7 +30,8 @@ module _ (C : Pairs) where
   -- t is the chain of C from a on to j, where a's next corner is below top
   abbrev pub ChainOf : ℕ → ℕ → ℕ → Tree → Type 0
   ChainOf a top j leaf = a ≡ j
-  ChainOf a top j (link b u r) = (a < b) × (b < top) × Clear a b top × LineOf a b u (ChainOf a b b u) × ChainOf b (suc j) j r
+  ChainOf a top j (link b u r) =
+      (a < b) × (b < top) × Clear a b top × LineOf a b u (ChainOf a b b u) × ChainOf b (suc j) j r
 
   -- t is the tree of C on the range i..j: its piece does not go by the closing line itself
   abbrev pub TreeOf : ℕ → ℕ → Tree → Type 0
@@ -61,7 +63,8 @@ module _ (C : Pairs) where
   furthest-next a (suc k) = go (furthest-next a k) (C a k) refl
     where
       go : Next a k (furthest C a k) → (q : Bool) → C a k ≡ q → Next a (suc k) (furthest C a (suc k))
-      go n true e = rw (e, furthest) (record { linked = inr (rw e tt); clear = λ y l m c. absurd (omega arith); below = λ t le lt. omega arith })
+      go n true e = rw (e, furthest)
+          (record { linked = inr (rw e tt); clear = λ y l m c. absurd (omega arith); below = λ t le lt. omega arith })
       go n false e =
           rw (e, furthest) (record {
             linked = n .linked;
@@ -107,18 +110,27 @@ module _ (C : Pairs) where
         lt : a < b
         lt = above a b (next .linked)
 
-        go : (Enough f a b b → TreeOf a b (chain C f a b b)) → (Enough f b (suc j) j → ChainOf b (suc j) j (chain C f b (suc j) j)) →
+        go : (Enough f a b b → TreeOf a b (chain C f a b b)) →
+            (Enough f b (suc j) j → ChainOf b (suc j) j (chain C f b (suc j) j)) →
             (q : Bool) → ltb a j ≡ q → ChainOf a top j (chain C (suc f) a top j)
         go F G true e =
             let tp = next .below top (omega arith) (en .1 (ltb→lt a j (rw e tt))) in
-            let deeper : suc a < b → TreeOf a b (chain C f a b b) = λ w. F (omega arith, (λ q. w), omega arith, omega arith, omega (arith, en, lt)) in
+            let deeper : suc a < b → TreeOf a b (chain C f a b b) =
+            λ w. F (omega arith, (λ q. w), omega arith, omega arith, omega (arith, en, lt)) in
             let line = under a b (chain C f a b b) (next .linked) deeper (ltb (suc a) b) refl in
-            rw (e, chain) (lt, tp, next .clear, line, G (omega (arith, en), (λ q. omega arith), omega arith, omega arith, omega (arith, en, lt)))
+            rw (e, chain) (
+              lt,
+              tp,
+              next .clear,
+              line,
+              G (omega (arith, en), (λ q. omega arith), omega arith, omega arith, omega (arith, en, lt)),
+            )
         go F G false e = rw (e, chain) (omega (arith, en, nltb→le a j (rw e tt)))
 
     -- the tree of a cutting is the tree of its pairs
     pub tree-of : (n : ℕ) → 3 ≤ n → TreeOf 0 (n - 1) (tree n C)
-    tree-of n le = of-chain (n + n) 0 (n - 1) (n - 1) (omega arith, (λ q. omega arith), omega arith, omega arith, omega arith)
+    tree-of n le =
+        of-chain (n + n) 0 (n - 1) (n - 1) (omega arith, (λ q. omega arith), omega arith, omega arith, omega arith)
 
   -- ---- there is no other
   next-same : (a top b b′ : ℕ) → (a < b) × (b < top) × Clear a b top × Linked a b →
@@ -157,15 +169,21 @@ module _ (C : Pairs) where
   -- ---- an allowed tree, where the pairs of C may be cuts and the pieces on them may be pieces
   module _ (cut : ℕ → ℕ → Type 0) (ok : List ℕ → Type 0) (n : ℕ)
       (may : (a b : ℕ) (t : Tree) → Node t → T (C a b) → b < n → TreeOf a b t → cut a b × ok (a ∷ corners t)) where
-    line-allowed : (a b : ℕ) (t : Tree) → LineOf a b t (TreeOf a b t) → b < n → (TreeOf a b t → Chain cut ok a b t) → Line cut ok a b t
+    line-allowed : (a b : ℕ) (t : Tree) → LineOf a b t (TreeOf a b t) → b < n →
+        (TreeOf a b t → Chain cut ok a b t) → Line cut ok a b t
     line-allowed a b leaf h lt f = h
-    line-allowed a b (link c u r) h lt f = let m = may a b (link c u r) tt (h .0) lt (h .1) in (m .0, (h .1 .1, m .1), f (h .1))
+    line-allowed a b (link c u r) h lt f =
+        let m = may a b (link c u r) tt (h .0) lt (h .1) in
+        (m .0, (h .1 .1, m .1), f (h .1))
 
     of-allowed : (a top j : ℕ) (t : Tree) → ChainOf a top j t → j < n → Chain cut ok a j t
     of-allowed a top j leaf h lt = h
     of-allowed a top j (link b u r) h lt =
-        let le = of-le b (suc j) j r (h .4) in
-        (h .0, line-allowed a b u (h .3) (omega arith) (λ o. of-allowed a b b u o (omega arith)), of-allowed b (suc j) j r (h .4) lt)
+        let le = of-le b (suc j) j r (h .4) in (
+          h .0,
+          line-allowed a b u (h .3) (omega arith) (λ o. of-allowed a b b u o (omega arith)),
+          of-allowed b (suc j) j r (h .4) lt,
+        )
 
     pub range-allowed : (i j : ℕ) (t : Tree) → Node t → TreeOf i j t → j < n → ok (i ∷ corners t) → Range cut ok i j t
     range-allowed i j leaf k h lt o = absurd k

@@ -1,6 +1,6 @@
--- Allowed trees: what stands on a line, on a chain of corners and on a range, if every pair may be a cut and every piece may be a piece.
--- A cutting and its tree are the same thing (`Valid`); proofs go over trees, by recursion on chains. A lemma on a line is not recursive: it takes
--- what is known of the chain under the line as an argument.
+-- Allowed trees: what stands on a line, on a chain of corners and on a range, if every pair may be a cut and every
+-- piece may be a piece. A cutting and its tree are the same thing (`Valid`); proofs go over trees, by recursion on
+-- chains. A lemma on a line is not recursive: it takes what is known of the chain under the line as an argument.
 use mathlib.Core.Path.{_≡_, refl, ap, ap₂, _∙_}
 use mathlib.Core.List.{List, [], _∷_, _++_, append-assoc}
 use Prim.Native.Nat.{ℕ, suc, _+_, _*_, _≤_, _<_}
@@ -108,26 +108,43 @@ module _ (w : ℕ → ℕ → ℕ) where
   weight-append [] m = omega arith
   weight-append (S ∷ l) m = omega (arith, weight-append l m)
 
-  weight-topped : (a b : ℕ) (t : Tree) (l : List (List ℕ)) → Rise a b (corners t) → weight w (topped a t l) ≡ onLine (w a b + weight w l) t
+  weight-topped : (a b : ℕ) (t : Tree) (l : List (List ℕ)) → Rise a b (corners t) →
+      weight w (topped a t l) ≡ onLine (w a b + weight w l) t
   weight-topped a b leaf l h = refl
   weight-topped a b (link c u r) l h = ap (λ x. w a x + weight w l) (rise-is-last a b (c ∷ corners r) h)
 
   module _ (cut : ℕ → ℕ → Type 0) (ok : List ℕ → Type 0) where
-    weight-line : (a b : ℕ) (t : Tree) → Line cut ok a b t → (Chain cut ok a b t → weight w (below a t) ≡ under a t) → weight w (told a t) ≡ total a b t
+    weight-line : (a b : ℕ) (t : Tree) → Line cut ok a b t → (Chain cut ok a b t → weight w (below a t) ≡ under a t) →
+        weight w (told a t) ≡ total a b t
     weight-line a b leaf h f = refl
     weight-line a b (link c u r) h f =
-        omega (arith, weight-topped a b (link c u r) (below a (link c u r)) (chain-rise cut ok a b (link c u r) (h .2)), f (h .2))
+        omega (
+          arith,
+          weight-topped a b (link c u r) (below a (link c u r))
+              (chain-rise cut ok a b (link c u r) (h .2)),
+          f (h .2),
+        )
 
     weight-chain : (a j : ℕ) (t : Tree) → Chain cut ok a j t → weight w (below a t) ≡ under a t
     weight-chain a j leaf h = refl
     weight-chain a j (link b u r) h =
-        omega (arith, weight-append (told a u) (below b r), weight-line a b u (h .1) (weight-chain a b u), weight-chain b j r (h .2))
+        omega (
+          arith,
+          weight-append (told a u) (below b r),
+          weight-line a b u (h .1) (weight-chain a b u),
+          weight-chain b j r (h .2),
+        )
 
     -- the weight of the pieces told is that of the tree
     pub weight-told : (i j : ℕ) (t : Tree) → Range cut ok i j t → weight w (told i t) ≡ total i j t
     weight-told i j leaf h = absurd (h .0)
     weight-told i j (link c u r) h =
-        omega (arith, weight-topped i j (link c u r) (below i (link c u r)) (chain-rise cut ok i j (link c u r) (h .1)), weight-chain i j (link c u r) (h .1))
+        omega (
+          arith,
+          weight-topped i j (link c u r) (below i (link c u r))
+              (chain-rise cut ok i j (link c u r) (h .1)),
+          weight-chain i j (link c u r) (h .1),
+        )
 
 -- by 01's own rule the weight is the count of pieces
 pub weight-one : (l : List (List ℕ)) → weight one l ≡ length l
@@ -138,17 +155,32 @@ weight-one ((a ∷ s) ∷ l) = omega (arith, weight-one l)
 -- ---- the lengths of runs
 module _ (cut : ℕ → ℕ → Type 0) (ok : List ℕ → Type 0) where
   length-line : (a b : ℕ) (t : Tree) → Line cut ok a b t →
-      (Chain cut ok a b t → length (runBelow a t) + length (corners t) + a ≡ b + 2 * under one a t) → length (runLine a t) + 1 + a ≡ b + 2 * total one a b t
+      (Chain cut ok a b t → length (runBelow a t) + length (corners t) + a ≡ b + 2 * under one a t) →
+      length (runLine a t) + 1 + a ≡ b + 2 * total one a b t
   length-line a b leaf h f = omega arith
-  length-line a b (link c u r) h f = omega (arith, length-append (a ∷ c ∷ corners r) (runBelow a (link c u r)), f (h .2))
+  length-line a b (link c u r) h f =
+      omega (arith, length-append (a ∷ c ∷ corners r) (runBelow a (link c u r)), f (h .2))
 
-  length-chain : (a j : ℕ) (t : Tree) → Chain cut ok a j t → length (runBelow a t) + length (corners t) + a ≡ j + 2 * under one a t
+  length-chain : (a j : ℕ) (t : Tree) → Chain cut ok a j t →
+      length (runBelow a t) + length (corners t) + a ≡ j + 2 * under one a t
   length-chain a j leaf h = omega arith
   length-chain a j (link b u r) h =
-      omega (arith, length-append (runLine a u) (runBelow b r), length-line a b u (h .1) (length-chain a b u), length-chain b j r (h .2))
+      omega (
+        arith,
+        length-append (runLine a u) (runBelow b r),
+        length-line a b u (h .1) (length-chain a b u),
+        length-chain b j r (h .2),
+      )
 
-  -- each corner but the ends is told once more for each piece it closes: the run of a range has two numbers a piece beside its corners
-  pub length-run : (i j : ℕ) (t : Tree) → Range cut ok i j t → length (flat (told i t)) + 1 + i ≡ j + 2 * total one i j t
+  -- each corner but the ends is told once more for each piece it closes: the run of a range has two numbers a piece
+  -- beside its corners
+  pub length-run : (i j : ℕ) (t : Tree) → Range cut ok i j t →
+      length (flat (told i t)) + 1 + i ≡ j + 2 * total one i j t
   length-run i j leaf h = absurd (h .0)
   length-run i j (link c u r) h =
-      omega (arith, ap length (run-line i (link c u r)), length-append (i ∷ c ∷ corners r) (runBelow i (link c u r)), length-chain i j (link c u r) (h .1))
+      omega (
+        arith,
+        ap length (run-line i (link c u r)),
+        length-append (i ∷ c ∷ corners r) (runBelow i (link c u r)),
+        length-chain i j (link c u r) (h .1),
+      )

@@ -1,5 +1,5 @@
--- Renumbering by one corner, numbers and lists: corner i becomes i+1, and the last becomes 0. A list of corners goes from the new numbers
--- back to the old, in rising order again; members, neighbours and centres go with it.
+-- Renumbering by one corner, numbers and lists: corner i becomes i+1, and the last becomes 0. A list of corners goes
+-- from the new numbers back to the old, in rising order again; members, neighbours and centres go with it.
 use mathlib.Core.Path.{_≡_, refl, sym, ap, subst}
 use mathlib.Core.Logic.{_⊎_, inl, inr, _↔_, ⊎-elim}
 use mathlib.Core.List.{List, [], _∷_, _++_}
@@ -85,7 +85,9 @@ module _ (n : ℕ) (s : List ℕ) (rising : Rising s) (small : (x : ℕ) → In 
       (in-split z (lower s) (wrap n s) h)
 
   back-zero : (z : ℕ) → suc z ≡ n → In 0 s → In z (back n s)
-  back-zero z e h = let q : z ≡ n - 1 = omega arith in rw q (in-right (n - 1) (lower s) (wrap n s) (wrap-in n s rising h))
+  back-zero z e h =
+      let q : z ≡ n - 1 = omega arith in
+      rw q (in-right (n - 1) (lower s) (wrap n s) (wrap-in n s rising h))
 
   back-suc : (z : ℕ) → In (suc z) s → In z (back n s)
   back-suc z h = in-left z (lower s) (wrap n s) (lower-in z s h)
@@ -123,9 +125,11 @@ module _ (n : ℕ) (s : List ℕ) (rising : Rising s) (small : (x : ℕ) → In 
           g (suc z) i = let p = f z (back-suc z i) in (omega arith, omega arith)
 
       from : Near s (suc x) (suc y) → Near (back n s) x y
-      from (inl f) = inl (λ z i p q. ⊎-elim (λ e. omega arith) (λ e. f (suc z) (e .1) (omega arith) (omega arith)) (in-back z i))
+      from (inl f) =
+          inl (λ z i p q. ⊎-elim (λ e. omega arith) (λ e. f (suc z) (e .1) (omega arith) (omega arith)) (in-back z i))
       from (inr f) =
-          inr (λ z i. ⊎-elim (λ e. absurd (omega (arith, f 0 (e .1)))) (λ e. let p = f (suc z) (e .1) in (omega arith, omega arith))
+          inr (λ z i. ⊎-elim (λ e. absurd (omega (arith, f 0 (e .1)))) (λ e. let p = f (suc z) (e .1) in
+          (omega arith, omega arith))
           (in-back z i))
 
   -- and of which it is: inside and outside change places
@@ -158,7 +162,8 @@ module _ (n : ℕ) (s : List ℕ) (rising : Rising s) (small : (x : ℕ) → In 
       from (inr f) = inl (λ z i p q. ⊎-elim (λ e. omega arith) (λ e. omega (arith, f (suc z) (e .1))) (in-back z i))
 
 -- ---- one to one
-module _ (n : ℕ) (s t : List ℕ) (rs : Rising s) (rt : Rising t) (ss : (x : ℕ) → In x s → x < n) (st : (x : ℕ) → In x t → x < n) where
+module _ (n : ℕ) (s t : List ℕ) (rs : Rising s) (rt : Rising t) (ss : (x : ℕ) → In x s → x < n)
+    (st : (x : ℕ) → In x t → x < n) where
   back-sub : back n s ≡ back n t → (z : ℕ) → In z s → In z t
   back-sub e zero i =
       let k = ss 0 i in
@@ -168,19 +173,24 @@ module _ (n : ℕ) (s t : List ℕ) (rs : Rising s) (rt : Rising t) (ss : (x : �
       let k = ss (suc z) i in
       ⊎-elim (λ p. absurd (omega arith)) (λ p. p .1) (in-back n t rt st z (subst (In z) e (back-suc n s rs ss z i)))
 
-pub back-injective : (n : ℕ) (s t : List ℕ) → Rising s → Rising t → ((x : ℕ) → In x s → x < n) → ((x : ℕ) → In x t → x < n) →
+pub back-injective : (n : ℕ) (s t : List ℕ) → Rising s → Rising t → ((x : ℕ) → In x s → x < n) →
+    ((x : ℕ) → In x t → x < n) →
     back n s ≡ back n t → s ≡ t
-back-injective n s t rs rt ss st e = rising-ext s t rs rt (back-sub n s t rs rt ss st e) (back-sub n t s rt rs st ss (sym e))
+back-injective n s t rs rt ss st e =
+    rising-ext s t rs rt (back-sub n s t rs rt ss st e) (back-sub n t s rt rs st ss (sym e))
 
 -- ---- a centre stays one where sight goes with the numbers
-pub centre-turn : (n : ℕ) (sees sees′ : ℕ → ℕ → Type 0) → ((x x′ y y′ : ℕ) → Moved n x x′ → Moved n y y′ → sees x y → sees′ x′ y′) →
+pub centre-turn : (n : ℕ) (sees sees′ : ℕ → ℕ → Type 0) →
+    ((x x′ y y′ : ℕ) → Moved n x x′ → Moved n y y′ → sees x y → sees′ x′ y′) →
     (s : List ℕ) → Rising s → ((x : ℕ) → In x s → x < n) → HasCentre sees (back n s) → HasCentre sees′ s
 centre-turn n sees sees′ goes s rising small h =
-    ⊎-elim (λ p. (0, (p .1, seen 0 (inl (p .0, refl))))) (λ p. (suc (h .0), (p .1, seen (suc (h .0)) (inr (p .0, refl)))))
+    ⊎-elim (λ p. (0, (p .1, seen 0 (inl (p .0, refl)))))
+    (λ p. (suc (h .0), (p .1, seen (suc (h .0)) (inr (p .0, refl)))))
     (in-back n s rising small (h .0) (h .1 .0))
   where
     seen : (x′ : ℕ) → Moved n (h .0) x′ → (y : ℕ) → In y s → sees′ x′ y
     seen x′ m zero i =
         let e : suc (n - 1) ≡ n = omega (arith, small 0 i) in
         goes (h .0) x′ (n - 1) 0 m (inl (e, refl)) (h .1 .1 (n - 1) (back-zero n s rising small (n - 1) e i))
-    seen x′ m (suc y) i = goes (h .0) x′ y (suc y) m (inr (small (suc y) i, refl)) (h .1 .1 y (back-suc n s rising small y i))
+    seen x′ m (suc y) i =
+        goes (h .0) x′ y (suc y) m (inr (small (suc y) i, refl)) (h .1 .1 y (back-suc n s rising small y i))

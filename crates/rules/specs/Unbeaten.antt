@@ -29,7 +29,8 @@ module _ (top : ℕ) (w val left col : ℕ → ℕ → ℕ) (j : ℕ) where
           ((b : ℕ) → b ≤ j → j ≤ b + f → Every x b →
           less (restOf top w val left col y j b) (restOf top w val left col x j b) ≡ false) →
           less (restOf top w val left col y j c) (restOf top w val left col x j c) ≡ false
-      go (no p) k = ap (λ l. less l (restOf top w val left col x j c)) (rest-end top w val left col y j c (omega arith))
+      go (no p) k =
+          ap (λ l. less l (restOf top w val left col x j c)) (rest-end top w val left col y j c (omega arith))
       go (yes p) k =
           let q = next-goes top w val left col y j yj c p in
           let h = e c (omega arith) p in

@@ -1,5 +1,5 @@
--- The cuts that a tree uses, as a set of pairs: the lines of the tree that are no sides, without the closing line of the whole.
--- They are uncrossed, and the tree is that of its cuts.
+-- The cuts that a tree uses, as a set of pairs: the lines of the tree that are no sides, without the closing line of
+-- the whole. They are uncrossed, and the tree is that of its cuts.
 use mathlib.Core.Path.{_≡_, refl, subst}
 use mathlib.Core.Bool.{Bool, true, false, _&&_, _||_}
 use mathlib.Core.Logic.{inl, inr, ⊎-elim}
@@ -36,7 +36,8 @@ pub uses-stands : (a : ℕ) (t : Tree) (x y : ℕ) → T (uses a t x y) → (v :
 uses-stands a leaf x y h = absurd h
 uses-stands a (link b u r) x y h =
     ⊎-elim (λ k. (u, inl (line u k)))
-    (λ k. ⊎-elim (λ q. under (uses-stands a u x y q)) (λ q. rest (uses-stands b r x y q)) (or-yes (uses a u x y) (uses b r x y) k))
+    (λ k. ⊎-elim (λ q. under (uses-stands a u x y q)) (λ q. rest (uses-stands b r x y q))
+    (or-yes (uses a u x y) (uses b r x y) k))
     (or-yes (isLine a b u x y) (uses a u x y || uses b r x y) h)
   where
     under : (v : Tree) × Stands a u x y v → (v : Tree) × Stands a (link b u r) x y v
@@ -62,7 +63,8 @@ stands-uses a (link b u r) x y v (inr (inr h)) =
     or-right (isLine a b u x y) _ (or-right (uses a u x y) (uses b r x y) (stands-uses b r x y v h))
 
 module _ (cut : ℕ → ℕ → Type 0) (ok : List ℕ → Type 0) where
-  pub uses-in : (a j : ℕ) (t : Tree) → Chain cut ok a j t → (x y : ℕ) → T (uses a t x y) → (v : Tree) × Placed cut ok a j x y v
+  pub uses-in : (a j : ℕ) (t : Tree) → Chain cut ok a j t → (x y : ℕ) → T (uses a t x y) →
+      (v : Tree) × Placed cut ok a j x y v
   uses-in a j t h x y k = let s = uses-stands a t x y k in (s .0, stands-in cut ok a j t h x y (s .0) (s .1))
 
   pub uses-uncrossed : (m : ℕ) (t : Tree) → Range cut ok 0 m t → Uncrossed (suc m) (uses 0 t)
@@ -76,7 +78,8 @@ module _ (cut : ℕ → ℕ → Type 0) (ok : List ℕ → Type 0) where
           record {
             rises = omega arith;
             small = omega (arith, p .high);
-            no-side = ⊎-elim (λ e. omega arith) (λ e. omega (arith, e .1, stands-proper cut ok 0 m t h a b (s .0) (s .1) (e .0)));
+            no-side = ⊎-elim (λ e. omega arith)
+                (λ e. omega (arith, e .1, stands-proper cut ok 0 m t h a b (s .0) (s .1) (e .0)));
           }
 
       apart : (a b c d : ℕ) → T (uses 0 t a b) → T (uses 0 t c d) → Cross a b c d → ⊥
@@ -104,12 +107,14 @@ module _ (cut : ℕ → ℕ → Type 0) (ok : List ℕ → Type 0) where
   chain-head a j leaf h = tt
   chain-head a j (link c u r) h = omega (arith, chain-le cut ok c j r (h .2))
 
-  line-of : (C : Pairs) (a b : ℕ) (u : Tree) → Line cut ok a b u → (Node u → T (C a b)) → (Range cut ok a b u → TreeOf C a b u) →
+  line-of : (C : Pairs) (a b : ℕ) (u : Tree) → Line cut ok a b u → (Node u → T (C a b)) →
+      (Range cut ok a b u → TreeOf C a b u) →
       LineOf C a b u (TreeOf C a b u)
   line-of C a b leaf h c f = h
   line-of C a b (link d v s) h c f = (c tt, f (h .1, h .2))
 
-  of-uses : (C : Pairs) (a top j : ℕ) (t : Tree) → Chain cut ok a j t → Head top t → top ≤ suc j → Agree C a top j t → ChainOf C a top j t
+  of-uses : (C : Pairs) (a top j : ℕ) (t : Tree) → Chain cut ok a j t → Head top t → top ≤ suc j → Agree C a top j t →
+      ChainOf C a top j t
   of-uses C a top j leaf h hd tp ag = h
   of-uses C a top j (link b u r) h hd tp ag = (
     h .0,
@@ -131,7 +136,9 @@ module _ (cut : ℕ → ℕ → Type 0) (ok : List ℕ → Type 0) where
       later = stands-in cut ok b j r (h .2)
 
       clear : Clear C a b top
-      clear y l m c = let s = ag .only a y (omega arith) (omega (arith, h .0)) (omega arith) (λ e. m) c in go (s .0) (s .1)
+      clear y l m c =
+          let s = ag .only a y (omega arith) (omega (arith, h .0)) (omega arith) (λ e. m) c in
+          go (s .0) (s .1)
         where
           go : (v : Tree) → Stands a (link b u r) a y v → ⊥
           go v (inl q) = omega (arith, q .2)
@@ -146,7 +153,8 @@ module _ (cut : ℕ → ℕ → Type 0) (ok : List ℕ → Type 0) where
             (f .0, go x y q s e (f .0) (f .1));
       }
         where
-          go : (x y : ℕ) → x < y → y ≤ b → (x ≡ a → y < b) → (v : Tree) → Stands a (link b u r) x y v → Stands a u x y v
+          go : (x y : ℕ) → x < y → y ≤ b → (x ≡ a → y < b) → (v : Tree) →
+              Stands a (link b u r) x y v → Stands a u x y v
           go x y l k e v (inl q) = absurd (omega (arith, e (q .1), q .2))
           go x y l k e v (inr (inl q)) = q
           go x y l k e v (inr (inr q)) = absurd (omega (arith, later x y v q .low))

@@ -1,5 +1,6 @@
 -- Valid cuttings and allowed trees are the same thing; so the order of trees is that of cuttings.
--- Of two different cuttings the told runs differ and one comes first; the lightest that comes first is one and no other.
+-- Of two different cuttings the told runs differ and one comes first; the lightest that comes first is one and no
+-- other.
 use mathlib.Core.Path.{_≡_, refl, sym, ap, _∙_, subst}
 use mathlib.Core.Bool.{Bool, true, false}
 use mathlib.Core.Logic.{_⊎_, inl, inr, ⊎-elim, ⊎-map, _↔_}
@@ -9,7 +10,8 @@ use native.Mathlib.Omega.{arith}
 use lib.ListN.{length}
 use lib.Dec.{T}
 use Rattle.rules.specs.Lists.{In, Rising}
-use Rattle.rules.specs.Cutting.{Pairs, Inner, Uncrossed, Region, Valid, Tree, leaf, link, corners, below, told, tree, pieces}
+use Rattle.rules.specs.Cutting.{Pairs, Inner, Uncrossed, Region, Valid, Tree, leaf}
+use Rattle.rules.specs.Cutting.{link, corners, below, told, tree, pieces}
 use Rattle.rules.specs.Cutting.{flat, run, Less, weight, First}
 use Rattle.rules.specs.Trees.{Range, total, weight-told}
 use Rattle.rules.specs.Order.{less-irrefl, upto-antisym, range-differ, Best}
@@ -69,17 +71,20 @@ module _ (cut : ℕ → ℕ → Type 0) (ok : List ℕ → Type 0) where
   range-ok i j (link c u r) h = h .0 .1
 
   told-ok : (i j : ℕ) (t : Tree) → Range cut ok i j t → (S : List ℕ) → In S (told i t) → ok S
-  told-ok i j t h S k = ⊎-elim (λ e. rw (e .1) (range-ok i j t h)) (λ q. go (told-stands i t S q)) (top-cases i t (below i t) S k)
+  told-ok i j t h S k =
+      ⊎-elim (λ e. rw (e .1) (range-ok i j t h)) (λ q. go (told-stands i t S q)) (top-cases i t (below i t) S k)
     where
       go : Piece i t S → ok S
-      go p = rw (p .is) (range-ok (p .x) (p .y) (p .v) (stands-in cut ok i j t (h .1) (p .x) (p .y) (p .v) (p .stands) .range))
+      go p = rw (p .is)
+          (range-ok (p .x) (p .y) (p .v) (stands-in cut ok i j t (h .1) (p .x) (p .y) (p .v) (p .stands) .range))
 
   pub pieces-uses : (m : ℕ) (t : Tree) → Range cut ok 0 m t → pieces (suc m) (uses 0 t) ≡ told 0 t
   unfolding pieces
   pieces-uses m t h = ap (told 0) (tree-uses cut ok m t h)
 
   pub range-valid : (m : ℕ) (t : Tree) → Range cut ok 0 m t → Valid cut ok (suc m) (uses 0 t)
-  range-valid m t h = record { uncrossed = un; cuts = λ a b u. uses-in cut ok 0 m t (h .1) a b u .1 .allowed; allowed = allowed }
+  range-valid m t h =
+      record { uncrossed = un; cuts = λ a b u. uses-in cut ok 0 m t (h .1) a b u .1 .allowed; allowed = allowed }
     where
       un : Uncrossed (suc m) (uses 0 t)
       un = uses-uncrossed cut ok m t h
@@ -100,7 +105,8 @@ module _ (cut : ℕ → ℕ → Type 0) (ok : List ℕ → Type 0) where
 
   module _ (w : ℕ → ℕ → ℕ) where
     -- the first of the lightest trees gives the first of the lightest cuttings
-    pub best-first : (m : ℕ) (t : Tree) → Best cut ok w 0 m t → First cut ok w (suc m) (uses 0 t) × (pieces (suc m) (uses 0 t) ≡ told 0 t)
+    pub best-first : (m : ℕ) (t : Tree) → Best cut ok w 0 m t →
+        First cut ok w (suc m) (uses 0 t) × (pieces (suc m) (uses 0 t) ≡ told 0 t)
     unfolding pieces
     best-first m t B = (record { valid = range-valid m t (B .fits); least = least; first = first }, same)
       where
@@ -116,10 +122,12 @@ module _ (cut : ℕ → ℕ → Type 0) (ok : List ℕ → Type 0) where
         weight-t : weight w (pieces (suc m) (uses 0 t)) ≡ total w 0 m t
         weight-t = ap (weight w) same ∙ weight-told w cut ok 0 m t (B .fits)
 
-        least : (D : Pairs) → Valid cut ok (suc m) D → weight w (pieces (suc m) (uses 0 t)) ≤ weight w (pieces (suc m) D)
+        least : (D : Pairs) → Valid cut ok (suc m) D →
+            weight w (pieces (suc m) (uses 0 t)) ≤ weight w (pieces (suc m) D)
         least D va = omega (arith, B .least (tree (suc m) D) (fits D va), weighs D va, weight-t)
 
-        first : (D : Pairs) → Valid cut ok (suc m) D → weight w (pieces (suc m) D) ≤ weight w (pieces (suc m) (uses 0 t)) →
+        first : (D : Pairs) → Valid cut ok (suc m) D →
+            weight w (pieces (suc m) D) ≤ weight w (pieces (suc m) (uses 0 t)) →
             (pieces (suc m) (uses 0 t) ≡ pieces (suc m) D) ⊎ Less (run (suc m) (uses 0 t)) (run (suc m) D)
         first D va k =
             ⊎-map (λ e. same ∙ ap (told 0) e) (λ l. subst (λ l. Less (flat l) (run (suc m) D)) (sym same) l)

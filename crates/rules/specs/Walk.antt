@@ -2,10 +2,10 @@
 -- told of it. Said for every set of pairs that joins no neighbours, whether its pairs cross or not. Knows no cells and
 -- no buffer.
 --
---     i . . c . . d . . . j    The piece on the line i j has been walked from i to c. Its next corner d is the furthest
---      \_ _/ \_ _/ \_ _ _/     below `top` that c is joined to: `top` is j at first, for the closing line is no step,
---                              and j + 1 from then on. On each line c d of it stands a smaller range, or a side:
---                              `line C c d`.
+--     i . . c . . d . . . j    The piece on the line i j has been walked from i to c. Its next corner d is the
+--      \_ _/ \_ _/ \_ _ _/     furthest below `top` that c is joined to: `top` is j at first, for the closing line
+--                              is no step, and j + 1 from then on. On each line c d of it stands a smaller range, or
+--                              a side: `line C c d`.
 use mathlib.Core.Path.{_≡_, refl, sym, subst, ap, _∙_}
 use mathlib.Core.Bool.{Bool, true, false}
 use mathlib.Core.List.{List, [], _∷_, _++_}

@@ -1,4 +1,5 @@
--- The lines of a piece one after another, its corners read from the buffer; the ranges under them are stored behind it.
+-- The lines of a piece one after another, its corners read from the buffer; the ranges under them are stored behind
+-- it.
 --
 --     out:  k 0 i . . c d . . j | the ranges under the lines so far |
 --             from      p       at                                  past
@@ -173,7 +174,8 @@ module _ {pairs out₀ : List ℕ} {i j at : ℕ} {out : List ℕ} {c p past : �
           ahead = λ k h.
               let z : p + 1 + k ≡ p + suc k = omega arith in
               ap (λ x. getD x (p + 1 + k) 0) (w .now)
-              ∙ sets-before (range-bytes pairs c d) out q (p + 1 + k) (omega (arith, g, v .behind, v .end, ap length s))
+              ∙ sets-before (range-bytes pairs c d) out q (p + 1 + k)
+              (omega (arith, g, v .behind, v .end, ap length s))
               ∙ ap (λ (x : ℕ). getD out x 0) z
               ∙ v .ahead (suc k) (omega (arith, ap length s))
               ∙ ap (λ x. getD x (suc k) 0) s;

@@ -86,7 +86,8 @@ module _ {o c : List ℕ → ℕ} {l : List (List ℕ)} {used : ℕ} {rest out :
                 room = omega (arith, half-length);
                 part =
                     ap₂ (λ q (k : ℕ). take (length S) (drop (k + 2) q)) e p
-                    ∙ ap (take (length S)) (drop-append-add d (length S ∷ o S ∷ r) 2 ∙ append-assoc S (layAll o t) rest)
+                    ∙ ap (take (length S))
+                    (drop-append-add d (length S ∷ o S ∷ r) 2 ∙ append-assoc S (layAll o t) rest)
                     ∙ take-append-seam S (layAll o t ++ rest);
               };
               on = record {
@@ -97,7 +98,8 @@ module _ {o c : List ℕ → ℕ} {l : List (List ℕ)} {used : ℕ} {rest out :
                 bytes = omega arith;
                 is =
                     ap (λ q. set q (at + 1) (c S)) (e ∙ sym (append-assoc d (length S ∷ []) (o S ∷ r)))
-                    ∙ set-at (d ++ (length S ∷ [])) (o S) r (c S) (at + 1) (omega (arith, length-append d (length S ∷ [])))
+                    ∙ set-at (d ++ (length S ∷ [])) (o S) r (c S) (at + 1)
+                    (omega (arith, length-append d (length S ∷ [])))
                     ∙ simp append-assoc;
                 aim = g ∙ simp append-assoc;
               };

@@ -54,7 +54,8 @@ pub wrote-both : {o o₁ o₂ : List ℕ} {at p r : ℕ} {l m a : List ℕ} → 
     Wrote o₁ o₂ p r m → Wrote o o₂ at r a
 wrote-both {o} {at} {l} {m} e v w = record {
   past = omega (arith, v .past, w .past, ap length e, length-append l m);
-  now = w .now ∙ ap₂ (λ q (k : ℕ). sets q k m) (v .now) (v .past) ∙ sym (sets-append l m o at) ∙ ap (sets o at) (sym e);
+  now =
+      w .now ∙ ap₂ (λ q (k : ℕ). sets q k m) (v .now) (v .past) ∙ sym (sets-append l m o at) ∙ ap (sets o at) (sym e);
 }
 
 -- ---- a piece: its corners after the first, then three numbers before them

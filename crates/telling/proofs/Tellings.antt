@@ -13,7 +13,8 @@ use Rattle.rules.specs.Cells.{filled, marked, sight, InBoth, marked-wide, marke
 use Rattle.rules.specs.Centre.{LowestOrZero}
 use Rattle.rules.specs.Walk.{Wide, After, walk, line, Step, below-end, line-end, below-more, line-more, pieces-line}
 use Rattle.rules.specs.AnyPairs.{any-shaped, any-size, any-room}
-use Rattle.rules.specs.Lays.{Seen, centre, lowest-or-zero-map, centre-shown, lay, layAll, blank, lay-layout, lay-append, lay-size}
+use Rattle.rules.specs.Lays.{Seen, centre, lowest-or-zero-map, centre-shown, lay}
+use Rattle.rules.specs.Lays.{layAll, blank, lay-layout, lay-append, lay-size}
 use Rattle.rules.specs.Agree.{layout-map}
 use Rattle.rules.specs.Result.{Carries}
 use Rattle.telling.specs.Answer.{result, Served}

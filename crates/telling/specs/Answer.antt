@@ -4,8 +4,8 @@
 -- The caller gives n, a set of pairs and two drawings' sight in flat cells, and a buffer. In words: what is not served
 -- is refused and nothing is written; otherwise the buffer begins with the pieces told of the pairs, each k, the lowest
 -- centre, its corners, and the rest of it is as before. Nothing is asked of the pairs: `pieces` is defined for all of
--- them, crossing ones too, and never takes more than 5n-10 bytes (`any-room` of `rules`). No second result and no second
--- buffer satisfy it (`tell-unique`).
+-- them, crossing ones too, and never takes more than 5n-10 bytes (`any-room` of `rules`). No second result and no
+-- second buffer satisfy it (`tell-unique`).
 use mathlib.Core.Path.{_≡_}
 use mathlib.Core.List.{List, [], _∷_}
 use Prim.Native.Nat.{ℕ, _<_, _≤_}

@@ -1,5 +1,5 @@
--- How `tell` is used after a search. What is served and has room is told, and what is told of the first of the lightest
--- cuttings is what 01 gives: every piece has a centre, and so its lowest one stands in the centre's place.
+-- How `tell` is used after a search. What is served and has room is told, and what is told of the first of the
+-- lightest cuttings is what 01 gives: every piece has a centre, and so its lowest one stands in the centre's place.
 use mathlib.Core.Path.{_≡_}
 use mathlib.Core.Logic.{inl, inr}
 use mathlib.Core.List.{List}

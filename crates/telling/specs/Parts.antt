@@ -56,7 +56,8 @@ pub record Standing (pairs out : List ℕ) (i j from at : ℕ) : Type 0 where
 abbrev pub Small : List ℕ → Type 0
 Small S = (x : ℕ) → In x S → x < row
 
--- out is the bytes of the pieces l, which are the first `used`, and then rest; c says what stands in the centre's place
+-- out is the bytes of the pieces l, which are the first `used`, and then rest; c says what stands in the centre's
+-- place
 pub record Holds (c : List ℕ → ℕ) (l : List (List ℕ)) (used : ℕ) (rest out : List ℕ) : Type 0 where
   pub bytes : used ≡ size l
   pub is : out ≡ layAll c l ++ rest

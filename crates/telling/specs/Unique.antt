@@ -19,7 +19,8 @@ module _ (n : ℕ) (pairs first second before : List ℕ) where
   tells-unique r s a b = go (decLt 0 (r .number))
     where
       e : r .number ≡ s .number
-      e = failed-unique (asked n pairs first second (length before)) (r .number) (s .number) (a .numbered) (b .numbered)
+      e = failed-unique (asked n pairs first second (length before)) (r .number) (s .number)
+          (a .numbered) (b .numbered)
 
       go : Dec (0 < r .number) → r ≡ s
       go (yes lt) = refused-unique before r s e (a .refused lt) (b .refused (omega (arith, e)))
@@ -31,7 +32,9 @@ module _ (n : ℕ) (pairs first second before : List ℕ) where
   -- so two calls return the same and leave the same buffer: a case has its own number
   pub tell-unique : (o o′ : Told) (after after′ : List ℕ) → Tells n pairs first second before (result o after) →
       Tells n pairs first second before (result o′ after′) → (o ≡ o′) × (after ≡ after′)
-  tell-unique o o′ after after′ t t′ = let e = tells-unique (result o after) (result o′ after′) t t′ in (case o o′ e, back o o′ e)
+  tell-unique o o′ after after′ t t′ =
+      let e = tells-unique (result o after) (result o′ after′) t t′ in
+      (case o o′ e, back o o′ e)
     where
       back : (o o′ : Told) → result o after ≡ result o′ after′ → after ≡ after′
       back o o′ e = ends o o′ (ap (λ (r : Result). r .after) e)

@@ -1,9 +1,9 @@
-// Ranges are told (01, "Cuttings"): "A range is told by its piece, and a piece by the ranges under its lines: first the
-// piece of the range, then the ranges under its lines from left to right, each told in the same way."
+// Ranges are told (01, "Cuttings"): "A range is told by its piece, and a piece by the ranges under its lines: first
+// the piece of the range, then the ranges under its lines from left to right, each told in the same way."
 //
-//     i . . c . . d . . . j    The piece on the line i j goes from c on to d, the furthest corner below `top` that c is
-//      \_ _/ \_ _/ \_ _ _/     joined to: `top` is j at first, for the closing line is no line to walk, and j + 1 from
-//                              then on. So each line c d is narrower than the range.
+//     i . . c . . d . . . j    The piece on the line i j goes from c on to d, the furthest corner below `top` that c
+//      \_ _/ \_ _/ \_ _ _/     is joined to: `top` is j at first, for the closing line is no line to walk, and j + 1
+//                              from then on. So each line c d is narrower than the range.
 //     out:  k 0 i . . c d . . j | k 0 ..    The piece is written, and behind it the ranges under its lines, which are
 //                                           read from it.
 //

@@ -23,7 +23,8 @@ use Rattle.terminal.specs.declared.Session.{Session}
 use Rattle.terminal.specs.declared.Session.the-variants as session
 
 -- ---- what `frames` writes
-laid : (e : Event) (line out out′ : List ℕ) (at r : ℕ) → LineOf e line → at + length line ≤ length out → Written line out at r out′ →
+laid : (e : Event) (line out out′ : List ℕ) (at r : ℕ) → LineOf e line → at + length line ≤ length out →
+    Written line out at r out′ →
     Laid e out at r out′
 laid e line out out′ at r is fits w =
     record { line = line; is = is; fits = fits; next = w .placed fits .0; placed = w .placed fits .1 }
@@ -41,21 +42,24 @@ module _ {a b : List ℤ} {before : List ℕ} {x : Result} (roomy : length befor
       let s = pair-short a b line is in
       laid (pair a b) line out out′ at r is (omega (arith, s .at-most, s .own, space)) w
 
-  pub laid-refusal : (x .number ≡ 0 → ⊥) → Written (refusal-line (x .number)) out at r out′ → Laid (pair a b) out at r out′
+  pub laid-refusal : (x .number ≡ 0 → ⊥) → Written (refusal-line (x .number)) out at r out′ →
+      Laid (pair a b) out at r out′
   laid-refusal n w = laid-pair (refusal-line (x .number)) (refused (x .number) n) w
     where
       refused : (k : ℕ) → (k ≡ 0 → ⊥) → refusal-line k ≡ reply k (x .count) (take (x .bytes) (x .after))
       refused zero n = absurd (n refl)
       refused (suc k) n = refl
 
-  pub laid-answer : x .number ≡ 0 → Written (answer-line (x .count) (take (x .bytes) (x .after))) out at r out′ → Laid (pair a b) out at r out′
+  pub laid-answer : x .number ≡ 0 → Written (answer-line (x .count) (take (x .bytes) (x .after))) out at r out′ →
+      Laid (pair a b) out at r out′
   laid-answer z w = laid-pair (answer-line (x .count) (take (x .bytes) (x .after))) (rw z) w
 
 -- ---- behind what stands there
 pub wrote-none : (out : List ℕ) → Wrote [] out out 0
 wrote-none out = record { lines = refl; fits = omega arith; kept = refl }
 
-pub wrote-more : (es : List Event) (e : Event) (before out out′ : List ℕ) (len r : ℕ) → Wrote es before out len → Laid e out len r out′ →
+pub wrote-more : (es : List Event) (e : Event) (before out out′ : List ℕ) (len r : ℕ) → Wrote es before out len →
+    Laid e out len r out′ →
     Wrote (es ++ e ∷ []) before out′ r
 wrote-more es e before out out′ len r w l =
     let k = length (l .line) in
@@ -64,11 +68,13 @@ wrote-more es e before out out′ len r w l =
     omega (arith, length-append (take len out) (l .line), length-take-le len out (w .fits), l .next) in
     let front : take r out′ ≡ take len out ++ l .line = rw (l .placed) (take-at (take len out ++ l .line) d r sized) in
     record {
-      lines = rw front (lines-append es (e ∷ []) (take len out) (l .line) (w .lines) (l .line, [], l .is, refl, sym (append-nil (l .line))));
+      lines = rw front (lines-append es (e ∷ []) (take len out) (l .line) (w .lines)
+          (l .line, [], l .is, refl, sym (append-nil (l .line))));
       fits = rw (l .placed) (omega (arith, length-append (take len out ++ l .line) d, sized));
       kept =
           rw (l .placed)
-          (drop-at (take len out ++ l .line) d r sized ∙ sym (drop-drop k len out) ∙ ap (drop k) (w .kept) ∙ drop-drop k len before
+          (drop-at (take len out ++ l .line) d r sized ∙ sym (drop-drop k len out) ∙ ap (drop k) (w .kept)
+          ∙ drop-drop k len before
           ∙ ap (λ (n : ℕ). drop n before) (sym (l .next)));
     }
 
@@ -87,5 +93,6 @@ module _ {s : Session} {out : List ℕ} (lent : length fault-line ≤ length out
         record {
           lent = lent;
           over = refl;
-          wrote = rw (e, f) (wrote-more [] fault out out out′ 0 len (wrote-none out) (laid-fault out out′ 0 len (omega arith) w));
+          wrote = rw (e, f)
+              (wrote-more [] fault out out out′ 0 len (wrote-none out) (laid-fault out out′ 0 len (omega arith) w));
         }

@@ -37,9 +37,10 @@ runs-over {out} e lent =
     })
 
 -- ---- a session that reads
--- before byte `at`: the events told, whose lines are written, and that the rest of the chunk does the rest. What is written is paid for: by the
--- bytes read, but for one line, whose pair the reader may have held at the start.
-pub record So (r₀ : Reader) (f₀ g₀ : List ℤ) (chunk out₀ : List ℕ) (f g : List ℤ) (out : List ℕ) (r : Reader) (at len : ℕ) : Type 0 where
+-- before byte `at`: the events told, whose lines are written, and that the rest of the chunk does the rest. What is
+-- written is paid for: by the bytes read, but for one line, whose pair the reader may have held at the start.
+pub record So (r₀ : Reader) (f₀ g₀ : List ℤ) (chunk out₀ : List ℕ) (f g : List ℤ) (out : List ℕ) (r : Reader)
+    (at len : ℕ) : Type 0 where
   pub told : List Event
   pub wrote : Wrote told out₀ out len
   pub going : reads r₀ f₀ g₀ chunk ≡ telling told (reads r f g (drop at chunk))
@@ -67,9 +68,11 @@ module _ {r₀ : Reader} {f₀ g₀ : List ℤ} {chunk out₀ : List ℕ} where
       (lent : Lent f₀ g₀ chunk out₀) {x : Fed} {f′ g′ : List ℤ}
       (q : _≡_ {A = Fed × List ℤ × List ℤ} (x, f′, g′) (feeds r f g at (drop at chunk))) where
     -- the chunk is read
-    pub so-more : {r′ : Reader} → x ≡ fed.More r′ → Done (session.Reading r₀) f₀ g₀ chunk out₀ f′ g′ out (session.Reading r′) len
+    pub so-more : {r′ : Reader} → x ≡ fed.More r′ →
+        Done (session.Reading r₀) f₀ g₀ chunk out₀ f′ g′ out (session.Reading r′) len
     so-more {r′} e =
-        let w : reads r₀ f₀ g₀ chunk ≡ record { events = so .told; session = session.Reading r′; first = f′; second = g′ } =
+        let w : reads r₀ f₀ g₀ chunk
+        ≡ record { events = so .told; session = session.Reading r′; first = f′; second = g′ } =
         so .going ∙ ap (telling (so .told)) (reads-more r f g chunk at q e) ∙ rw (append-nil (so .told)) in
         record {
           lent = lent;
@@ -92,7 +95,8 @@ module _ {r₀ : Reader} {f₀ g₀ : List ℤ} {chunk out₀ : List ℕ} where
           ⊎-elim (λ z. omega (arith, z, k, lent .out-fits, so .same))
           (λ z. omega (arith, z, k, t .took, t .first-fits, t .within, so .spent, lent .out-fits, so .same)) (so .own)
 
-      pub so-pair : {out′ : List ℕ} {len′ : ℕ} → Laid (pair (take n f′) (take m g′)) out len len′ out′ → length out′ ≡ length out →
+      pub so-pair : {out′ : List ℕ} {len′ : ℕ} → Laid (pair (take n f′) (take m g′)) out len len′ out′ →
+          length out′ ≡ length out →
           So r₀ f₀ g₀ chunk out₀ f′ g′ out′ fresh next len′
       so-pair {out′} {len′} l same =
           let t = takes in
@@ -116,7 +120,8 @@ module _ {r₀ : Reader} {f₀ g₀ : List ℤ} {chunk out₀ : List ℕ} where
         Done (session.Reading r₀) f₀ g₀ chunk out₀ f′ g′ out′ session.Over len′
     so-fault {out′} {len′} e h =
         let l = laid-fault out out′ len len′ (omega (arith, so .spent, so .within, so .same, lent .out-fits)) h in
-        let w : reads r₀ f₀ g₀ chunk ≡ record { events = so .told ++ fault ∷ []; session = session.Over; first = f′; second = g′ } =
+        let w : reads r₀ f₀ g₀ chunk
+        ≡ record { events = so .told ++ fault ∷ []; session = session.Over; first = f′; second = g′ } =
         so .going ∙ ap (telling (so .told)) (reads-fault r f g chunk at q e) in
         record {
           lent = lent;

@@ -1,4 +1,5 @@
--- The statements of the public calls fix their results and every byte lent: no second result and no second buffer satisfies them.
+-- The statements of the public calls fix their results and every byte lent: no second result and no second buffer
+-- satisfies them.
 use mathlib.Core.Path.{_≡_, refl, sym, _∙_, ap, ap₂}
 use mathlib.Core.List.{List, _++_}
 use Prim.Native.Nat.{ℕ}
@@ -47,7 +48,8 @@ module _ (s : Session) (f g : List ℤ) (chunk before : List ℕ) where
       Runs s f g chunk before f₂ g₂ y r′ → Same r r′ f₁ f₂ g₁ g₂ x y
   run-unique (ran.Done t m) (ran.Done u n) f₁ f₂ g₁ g₂ x y h k = record {
     result-is =
-        ap₂ ran.Done (h .session-is ∙ sym (k .session-is)) (wrote-len (goes s f g chunk .events) before x y m n (h .wrote) (k .wrote));
+        ap₂ ran.Done (h .session-is ∙ sym (k .session-is))
+        (wrote-len (goes s f g chunk .events) before x y m n (h .wrote) (k .wrote));
     first-is = h .first-is ∙ sym (k .first-is);
     second-is = h .second-is ∙ sym (k .second-is);
     out-is = wrote-out (goes s f g chunk .events) before x y m n (h .wrote) (k .wrote);
@@ -61,7 +63,8 @@ module _ (s : Session) (f g : List ℤ) (chunk before : List ℕ) where
     out-is = h .out-kept ∙ sym (k .out-kept);
   }
 
-pub finish-unique : (s : Session) (before x y : List ℕ) (r r′ : Ran) → Finishes s before x r → Finishes s before y r′ → (r ≡ r′) × (x ≡ y)
+pub finish-unique : (s : Session) (before x y : List ℕ) (r r′ : Ran) → Finishes s before x r → Finishes s before y r′ →
+    (r ≡ r′) × (x ≡ y)
 finish-unique s before x y (ran.Done t m) (ran.Done u n) h k = (
   ap₂ ran.Done (h .over ∙ sym (k .over)) (wrote-len (at-end s) before x y m n (h .wrote) (k .wrote)),
   wrote-out (at-end s) before x y m n (h .wrote) (k .wrote),

@@ -1,5 +1,5 @@
--- What a chunk of an input does to a session and to the two buffers, and the events that it tells: for every session, every chunk and all
--- buffers. A session that no run has made is read as it stands.
+-- What a chunk of an input does to a session and to the two buffers, and the events that it tells: for every session,
+-- every chunk and all buffers. A session that no run has made is read as it stands.
 use mathlib.Core.Path.{_≡_, refl, _∙_, ap}
 use mathlib.Core.Bool.{cond}
 use mathlib.Core.List.{List, [], _∷_, _++_}
@@ -62,9 +62,11 @@ module _ (more : List ℕ) where
   onward g = g .events ++ tells-after g more
 
   step-tells : (cs : List ℕ) → ((r : Reader) (f g : List ℤ) → from r f g (cs ++ more) ≡ onward (reads r f g cs)) →
-      (s : Step × List ℤ × List ℤ) → told-by s (λ r f g. from r f g (cs ++ more)) ≡ onward (gone-by s (λ r f g. reads r f g cs))
+      (s : Step × List ℤ × List ℤ) →
+      told-by s (λ r f g. from r f g (cs ++ more)) ≡ onward (gone-by s (λ r f g. reads r f g cs))
   step-tells cs again (step.On r, f, g) = again r f g
-  step-tells cs again (step.Pair n m, f, g) = ap (λ (es : List Event). pair (take n f) (take m g) ∷ es) (again fresh f g)
+  step-tells cs again (step.Pair n m, f, g) =
+      ap (λ (es : List Event). pair (take n f) (take m g) ∷ es) (again fresh f g)
   step-tells cs again (step.Fault, f, g) = refl
 
   reads-tells : (chunk : List ℕ) (r : Reader) (f g : List ℤ) → from r f g (chunk ++ more) ≡ onward (reads r f g chunk)
@@ -85,18 +87,21 @@ end-tells session.Over f g = refl
 -- ---- what `feed` reports of a chunk from byte i on, as a part of what the chunk does
 abbrev reported : Fed × List ℤ × List ℤ → List ℕ → Gone
 reported (fed.More r, f, g) chunk = record { events = []; session = session.Reading r; first = f; second = g }
-reported (fed.Pair n m next, f, g) chunk = telling (pair (take n f) (take m g) ∷ []) (reads fresh f g (drop next chunk))
+reported (fed.Pair n m next, f, g) chunk =
+    telling (pair (take n f) (take m g) ∷ []) (reads fresh f g (drop next chunk))
 reported (fed.Fault, f, g) chunk = record { events = fault ∷ []; session = session.Over; first = f; second = g }
 
 module _ (chunk : List ℕ) where
   step-reported : (cs : List ℕ) (i : ℕ) → cs ≡ drop (i + 1) chunk →
-      ((r : Reader) (f g : List ℤ) → reads r f g cs ≡ reported (feeds r f g (i + 1) cs) chunk) → (s : Step × List ℤ × List ℤ) →
+      ((r : Reader) (f g : List ℤ) → reads r f g cs ≡ reported (feeds r f g (i + 1) cs) chunk) →
+      (s : Step × List ℤ × List ℤ) →
       gone-by s (λ r f g. reads r f g cs) ≡ reported (fed-by s i (λ r f g. feeds r f g (i + 1) cs)) chunk
   step-reported cs i e again (step.On r, f, g) = again r f g
   step-reported cs i e again (step.Pair n m, f, g) = rw (← e)
   step-reported cs i e again (step.Fault, f, g) = refl
 
-  feed-reads : (xs : List ℕ) (r : Reader) (f g : List ℤ) (i : ℕ) → xs ≡ drop i chunk → reads r f g xs ≡ reported (feeds r f g i xs) chunk
+  feed-reads : (xs : List ℕ) (r : Reader) (f g : List ℤ) (i : ℕ) → xs ≡ drop i chunk →
+      reads r f g xs ≡ reported (feeds r f g i xs) chunk
   unfolding reads feeds
   feed-reads [] r f g i e = refl
   feed-reads (c ∷ cs) r f g i e =

@@ -22,17 +22,20 @@ module _ {a b : List ℤ} {before : List ℕ} {r : Result} (roomy : length befor
   -- where an answer is given, the first line of 01's table did not apply
   given-alike : r .number ≡ 0 → Alike a b
   given-alike z =
-      passed (line 1 (Alike a b) ∷ []) (line 2 (Roomy (corners a) (length before)) ∷ of-drawings a b ++ of-cutting a b) (r .number)
+      passed (line 1 (Alike a b) ∷ [])
+      (line 2 (Roomy (corners a) (length before)) ∷ of-drawings a b ++ of-cutting a b) (r .number)
       (omega arith) (h .numbered) .0 .0
 
   -- "so number 2 does not occur there": 5n-10 is at most 310
   pub never-2 : r .number ≡ 2 → ⊥
   never-2 z =
-      let first = passed (line 1 (Alike a b) ∷ []) (line 2 (Roomy (corners a) (length before)) ∷ of-drawings a b ++ of-cutting a b)
+      let first = passed (line 1 (Alike a b) ∷ [])
+      (line 2 (Roomy (corners a) (length before)) ∷ of-drawings a b ++ of-cutting a b)
       (r .number) (omega arith) (h .numbered) in
       go (first .0 .0) (first .1)
     where
-      go : Alike a b → FirstFailed (line 2 (Roomy (corners a) (length before)) ∷ of-drawings a b ++ of-cutting a b) (r .number) → ⊥
+      go : Alike a b → FirstFailed
+          (line 2 (Roomy (corners a) (length before)) ∷ of-drawings a b ++ of-cutting a b) (r .number) → ⊥
       go alike (inl f) = f .0 (omega (arith, alike .few))
       go alike (inr f) =
           let none = passed (of-drawings a b ++ of-cutting a b) [] (r .number) (omega arith) (f .1) .1 in
@@ -72,7 +75,8 @@ pub record Short (a : List ℤ) (line : List ℕ) : Type 0 where
   pub at-most : length line ≤ longest-line
   pub own : length line ≤ 10 + 6 * length a
 
-reply-short : (a b : List ℤ) (before : List ℕ) (r : Result) → length before ≡ room → Answers a b before r → Short a (line-for r)
+reply-short : (a b : List ℤ) (before : List ℕ) (r : Result) → length before ≡ room → Answers a b before r →
+    Short a (line-for r)
 reply-short a b before r roomy h = go (r .number) refl
   where
     go : (k : ℕ) → r .number ≡ k → Short a (reply k (r .count) (take (r .bytes) (r .after)))

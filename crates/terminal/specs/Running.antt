@@ -37,7 +37,8 @@ pub record Lent (f g : List ℤ) (chunk out : List ℕ) : Type 0 where
 
 -- the session and the drawings' buffers after the chunk, and the lines of its events
 pub record Done
-    (s : Session) (f g : List ℤ) (chunk before : List ℕ) (f′ g′ : List ℤ) (after : List ℕ) (s′ : Session) (len : ℕ) : Type 0 where
+    (s : Session) (f g : List ℤ) (chunk before : List ℕ) (f′ g′ : List ℤ) (after : List ℕ) (s′ : Session)
+    (len : ℕ) : Type 0 where
   pub lent : Lent f g chunk before
   pub session-is : s′ ≡ goes s f g chunk .session
   pub first-is : f′ ≡ goes s f g chunk .first

@@ -1,5 +1,6 @@
--- What the desk program writes for a whole input: document 01, "The frames on the wire". To be believed, with what `frames` says that an input
--- tells (`Frames`, `events`) and what `desk` says comes back for a pair (`Answer`, `Answers`).
+-- What the desk program writes for a whole input: document 01, "The frames on the wire". To be believed, with what
+-- `frames` says that an input tells (`Frames`, `events`) and what `desk` says comes back for a pair (`Answer`,
+-- `Answers`).
 use mathlib.Core.Path.{_≡_}
 use mathlib.Core.List.{List, [], _∷_, _++_}
 use Prim.Native.Nat.{ℕ, zero, suc}
@@ -10,7 +11,8 @@ use Rattle.limits.specs.Limits.{room}
 use Rattle.rules.specs.Result.{Result}
 use Rattle.desk.specs.Answer.{Answers}
 
--- "A0, the count of pieces in one byte and the answer bytes; or E0 and the refusal number in one byte": the line for 01's number
+-- "A0, the count of pieces in one byte and the answer bytes; or E0 and the refusal number in one byte": the line for
+-- 01's number
 abbrev pub reply : ℕ → ℕ → List ℕ → List ℕ
 reply zero pieces answer = answer-line pieces answer
 reply (suc k) pieces answer = refusal-line (suc k)

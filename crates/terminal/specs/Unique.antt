@@ -1,5 +1,5 @@
--- There is exactly one output for each input: one as soon as each pair has an answer, and no second, for what comes back for a pair does not
--- hang on what the room held before.
+-- There is exactly one output for each input: one as soon as each pair has an answer, and no second, for what comes
+-- back for a pair does not hang on what the room held before.
 use mathlib.Core.Path.{_≡_, refl, sym, _∙_, ap, ap₂, subst}
 use mathlib.Core.List.{List, [], _∷_, _++_}
 use Prim.Native.Nat.{ℕ}
@@ -16,7 +16,8 @@ use Rattle.terminal.specs.Terminal.{reply, line-for, Answered, LineOf, L
 
 answered-unique : (a b : List ℤ) (x y : List ℕ) → Answered a b x → Answered a b y → x ≡ y
 answered-unique a b x y p q =
-    p .replied ∙ ap line-for same ∙ ap (reply (s .number) (s .count)) (same-bytes (p .before) s (q .answers)) ∙ sym (q .replied)
+    p .replied ∙ ap line-for same ∙ ap (reply (s .number) (s .count)) (same-bytes (p .before) s (q .answers))
+    ∙ sym (q .replied)
   where
     s : Result
     s = q .result
@@ -37,13 +38,15 @@ line-unique fault x y h k = h ∙ sym k
 pub lines-unique : (es : List Event) (x y : List ℕ) → Lines es x → Lines es y → x ≡ y
 lines-unique [] x y h k = h ∙ sym k
 lines-unique (e ∷ es) x y h k =
-    h .4 ∙ ap₂ _++_ (line-unique e (h .0) (k .0) (h .2) (k .2)) (lines-unique es (h .1) (k .1) (h .3) (k .3)) ∙ sym (k .4)
+    h .4 ∙ ap₂ _++_ (line-unique e (h .0) (k .0) (h .2) (k .2))
+    (lines-unique es (h .1) (k .1) (h .3) (k .3)) ∙ sym (k .4)
 
 pub output-unique : (input x y : List ℕ) → Output input x → Output input y → x ≡ y
 output-unique input x y h k = lines-unique (events input) x y h k
 
 -- ---- and there is one, where something comes back for each pair
-module _ (before : List ℕ) (roomy : length before ≡ room) (comes : (a b : List ℤ) → (r : Result) × Answers a b before r) where
+module _ (before : List ℕ) (roomy : length before ≡ room)
+    (comes : (a b : List ℤ) → (r : Result) × Answers a b before r) where
   line-exists : (e : Event) → (line : List ℕ) × LineOf e line
   line-exists (pair a b) =
       let c = comes a b in

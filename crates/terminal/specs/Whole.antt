@@ -15,7 +15,8 @@ use Rattle.terminal.specs.declared.Ran.the-variants as ran
 
 -- ---- a run: `open`, a call of `run` for each chunk in order, `finish`
 -- one call of `run` that was not refused, with a buffer for its output, and what it wrote
-pub record Called (s : Session) (f g : List ℤ) (chunk : List ℕ) (s′ : Session) (f′ g′ : List ℤ) (written : List ℕ) : Type 0 where
+pub record Called (s : Session) (f g : List ℤ) (chunk : List ℕ) (s′ : Session) (f′ g′ : List ℤ)
+    (written : List ℕ) : Type 0 where
   pub before : List ℕ
   pub after : List ℕ
   pub len : ℕ
@@ -26,7 +27,8 @@ pub record Called (s : Session) (f g : List ℤ) (chunk : List ℕ) (s′ : Sess
 abbrev pub Through : Session → List ℤ → List ℤ → List (List ℕ) → Session → List ℕ → Type 0
 Through s f g [] s′ written = (s ≡ s′) × (written ≡ [])
 Through s f g (chunk ∷ more) s′ written =
-    (t : Session) × (f′ : List ℤ) × (g′ : List ℤ) × (front : List ℕ) × (back : List ℕ) × Called s f g chunk t f′ g′ front
+    (t : Session) × (f′ : List ℤ) × (g′ : List ℤ) × (front : List ℕ) × (back : List ℕ)
+    × Called s f g chunk t f′ g′ front
     × Through t f′ g′ more s′ back × (written ≡ front ++ back)
 
 pub record Finished (s : Session) (written : List ℕ) : Type 0 where
@@ -44,7 +46,8 @@ lines-append (e ∷ es) fs x y h k =
     (h .0, h .1 ++ y, h .2, lines-append es fs (h .1) y (h .3) k, rw (h .4) (append-assoc (h .0) (h .1) y))
 
 -- ---- the rest of the output, from any point of a run on
-from-here : (chunks : List (List ℕ)) (s s′ : Session) (f g : List ℤ) (x y : List ℕ) → Through s f g chunks s′ x → Finished s′ y →
+from-here : (chunks : List (List ℕ)) (s s′ : Session) (f g : List ℤ) (x y : List ℕ) →
+    Through s f g chunks s′ x → Finished s′ y →
     Lines (tells s f g (flatten chunks)) (x ++ y)
 unfolding flatten
 from-here [] s s′ f g x y (same, nothing) end =
@@ -56,7 +59,8 @@ from-here (chunk ∷ more) s s′ f g x y (t, f′, g′, front, back, call, res
     (take (call .len) (call .after)) (back ++ y) (d .wrote .lines)
     (rw (← d .session-is, ← d .first-is, ← d .second-is) (from-here more t s′ f′ g′ back y rest end)))
 
-pub whole-output : (chunks : List (List ℕ)) (s : Session) (f g : List ℤ) (x y : List ℕ) → Through opened f g chunks s x → Finished s y →
+pub whole-output : (chunks : List (List ℕ)) (s : Session) (f g : List ℤ) (x y : List ℕ) →
+    Through opened f g chunks s x → Finished s y →
     Output (flatten chunks) (x ++ y)
 unfolding flatten from ends-in-fault
 whole-output [] s f g x y through end = from-here [] opened s f g x y through end

@@ -15,7 +15,8 @@ pub fn read(
     out: &mut [u8],
 ) -> Ran
     requires { ⌜ Lent (now first) (now second) (now chunk) (now out) ⌝ }
-    ensures { λ r. ⌜ Runs (session.Reading reader) (now (first .entry)) (now (second .entry)) (now (chunk .entry)) (now (out .entry))
+    ensures { λ r. ⌜ Runs (session.Reading reader)
+        (now (first .entry)) (now (second .entry)) (now (chunk .entry)) (now (out .entry))
         (now (first .exit)) (now (second .exit)) (now (out .exit)) r ⌝ }
 {
     let mut r = reader;

@@ -1,5 +1,6 @@
-// From a whole input to the whole output of the desk program, document 01, "The frames on the wire", in chunks of any size. What is kept from
-// chunk to chunk is a session, by value, and the numbers of a pair that is being read, in two buffers of the caller's.
+// From a whole input to the whole output of the desk program, document 01, "The frames on the wire", in chunks of any
+// size. What is kept from chunk to chunk is a session, by value, and the numbers of a pair that is being read, in two
+// buffers of the caller's.
 ghost use mathlib.Core.Path.{_≡_};
 ghost use Rattle.terminal.specs.Running.{opened, Runs, Finishes};
 
@@ -38,8 +39,8 @@ pub fn open() -> Session
     Session::Reading(frames::start())
 }
 
-// Takes the whole of a chunk and writes the lines of the pairs that it ends, and EF where there is a fault. `first` and `second` have
-// `limits::MOST_NUMBERS` numbers at least, and `out` has `MOST_BEYOND` bytes more than the chunk.
+// Takes the whole of a chunk and writes the lines of the pairs that it ends, and EF where there is a fault. `first`
+// and `second` have `limits::MOST_NUMBERS` numbers at least, and `out` has `MOST_BEYOND` bytes more than the chunk.
 pub fn run(
     session: Session,
     chunk: &[u8],
@@ -68,7 +69,8 @@ pub fn run(
     }
 }
 
-// Is told the end of the input: writes EF where it ends inside a line or after the first frame of a pair. `out` has `MOST_AT_END` bytes at least.
+// Is told the end of the input: writes EF where it ends inside a line or after the first frame of a pair. `out` has
+// `MOST_AT_END` bytes at least.
 pub fn finish(session: Session, out: &mut [u8]) -> Ran
     ensures { λ r. ⌜ Finishes session (now (out .entry)) (now (out .exit)) r ⌝ }
 {

@@ -6,7 +6,8 @@ use limits::ROOM;
 // Lays the line of a pair into `out` from `at` on, and returns the place after it.
 pub fn reply(first: &[i32], second: &[i32], out: &mut [u8], at: usize) -> usize
     requires { ⌜ Space (now first) (now out) at ⌝ }
-    ensures { λ r. ⌜ Laid (pair (now (first .entry)) (now (second .entry))) (now (out .entry)) at r (now (out .exit)) ⌝ }
+    ensures { λ r. ⌜
+        Laid (pair (now (first .entry)) (now (second .entry))) (now (out .entry)) at r (now (out .exit)) ⌝ }
 {
     let mut room = [0u8; ROOM];
     let outcome = desk::answer(first, second, &mut room);

@@ -1,5 +1,5 @@
-// Calls for a cutting that are refused: too few corners, too many, each table a cell short (1), the room a byte short (2).
-// All see all, and every byte of the buffer must stay.
+// Calls for a cutting that are refused: too few corners, too many, each table a cell short (1), the room a byte short
+// (2). All see all, and every byte of the buffer must stay.
 use crate::call::BUFFER;
 use crate::call::Due;
 use crate::call::counted;

@@ -194,7 +194,8 @@ fn cannot_be_read(line: u64) {
 // Reads the drawing that begins at `at` and runs its calls. The next one is looked for from its end on, or from `at`
 // where it cannot be read.
 fn run(line: u64, text: &[u8], at: usize, xy: &mut [i32], room: &mut [u8], out: &mut [u8]) -> Ran
-    requires { ⌜ (length (now xy) ≡ most-numbers) × (all-cells ≤ length (now room)) × (all-cells ≤ length (now out)) ⌝ }
+    requires { ⌜ (length (now xy) ≡ most-numbers) × (all-cells ≤ length (now room))
+        × (all-cells ≤ length (now out)) ⌝ }
     ensures { λ r. ⌜ r .cells ≤ all-cells ⌝ }
 {
     let d = read(text, at, xy, out);

@@ -46,7 +46,8 @@ returns : tie.Need-returns Inv-loop μ-loop
 returns c =
     let taken = c .before .before .before .before .before in
     feeding
-    (feeds-pair _ _ _ _ _ (taken .before .before .before .before .loop-test .taken) (taken .take .ensures) (c .before .a .given .1)
+    (feeds-pair _ _ _ _ _ (taken .before .before .before .before .loop-test .taken) (taken .take .ensures)
+    (c .before .a .given .1)
     ∙ taken .before .before .before .before .before .loop .inv .2)
 
 enum-told : tie.Need-enum-told Inv-loop μ-loop
@@ -62,7 +63,8 @@ returns-2 : tie.Need-returns-2 Inv-loop μ-loop
 returns-2 c =
     let taken = c .before .before .before .before in
     feeding
-    (feeds-fault _ _ _ _ _ (taken .before .before .before .before .loop-test .taken) (taken .take .ensures) (c .enum-told .given .1)
+    (feeds-fault _ _ _ _ _ (taken .before .before .before .before .loop-test .taken) (taken .take .ensures)
+    (c .enum-told .given .1)
     ∙ taken .before .before .before .before .before .loop .inv .2)
 
 add-i : tie.Need-add-i Inv-loop μ-loop
@@ -76,7 +78,8 @@ loop-again c =
     let taken = c .before .before .before .before .before in (
       omega arith,
       omega arith,
-      feeds-on _ _ _ _ _ (taken .before .before .before .before .loop-test .taken) (taken .take .ensures) (c .before .next .given .1) ∙ taken .before .before .before .before .before .loop .inv .2,
+      feeds-on _ _ _ _ _ (taken .before .before .before .before .loop-test .taken) (taken .take .ensures)
+          (c .before .next .given .1) ∙ taken .before .before .before .before .before .loop .inv .2,
     )
 
 same-length-5 : tie.Need-same-length-5 Inv-loop μ-loop

@@ -16,11 +16,13 @@ enum-known-len : tie.Need-enum-known-len
 enum-known-len c = search needs
 
 array-share-prefix-out : tie.Need-array-share-prefix-out
-array-share-prefix-out c = (rw (c .before .len .given .1) at (c .before .before .before .before .finish .ensures)) .wrote .fits
+array-share-prefix-out c =
+    (rw (c .before .len .given .1) at (c .before .before .before .before .finish .ensures)) .wrote .fits
 
 slice-aggregate-write-all : tie.Need-slice-aggregate-write-all
 slice-aggregate-write-all c =
-    let ended = rw (c .before .before .len .given .1) at (c .before .before .before .before .before .finish .ensures) in
+    let ended =
+    rw (c .before .before .len .given .1) at (c .before .before .before .before .before .finish .ensures) in
     sym (length-take-le _ _ (ended .wrote .fits))
 
 write-all-requires : tie.Need-write-all-requires

@@ -43,11 +43,13 @@ enum-known-next : tie.Need-enum-known-next
 enum-known-next c = search needs
 
 array-share-prefix-out : tie.Need-array-share-prefix-out
-array-share-prefix-out c = (rw (c .before .next .given .1) at (c .before .before .before .before .before .before .run .ensures)) .wrote .fits
+array-share-prefix-out c =
+    (rw (c .before .next .given .1) at (c .before .before .before .before .before .before .run .ensures)) .wrote .fits
 
 slice-aggregate-write : tie.Need-slice-aggregate-write
 slice-aggregate-write c =
-    let done = rw (c .before .before .next .given .1) at (c .before .before .before .before .before .before .before .run .ensures) in
+    let done = rw (c .before .before .next .given .1) at
+    (c .before .before .before .before .before .before .before .run .ensures) in
     sym (length-take-le _ _ (done .wrote .fits))
 
 write-requires : tie.Need-write-requires

@@ -20,7 +20,12 @@ returns-3 c = never (λ s. omega arith)
 
 returns-4 : tie.Need-returns-4
 returns-4 c = record {
-  sure = λ t. record { even = c .before .before .if1 .left; same = c .before .if2 .left; enough = c .if3 .left; few = leb→le _ _ t };
+  sure = λ t. record {
+    even = c .before .before .if1 .left;
+    same = c .before .if2 .left;
+    enough = c .if3 .left;
+    few = leb→le _ _ t;
+  };
   told = λ s. le→leb _ _ (s .few);
 }
 

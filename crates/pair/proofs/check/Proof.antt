@@ -25,7 +25,8 @@ number-requires c κs = search needs
 returns-2 : tie.Need-returns-2
 returns-2 c =
     let judge = c .before .before in
-    first-decides (alike (judge .before)) (judge .judge .result) (judge .judge .ensures) _ (c .before .number .ensures) (c .if2 .taken)
+    first-decides (alike (judge .before)) (judge .judge .result) (judge .judge .ensures) _
+    (c .before .number .ensures) (c .if2 .taken)
 
 judge-requires-2 : tie.Need-judge-requires-2
 judge-requires-2 c κs = search needs
@@ -37,7 +38,8 @@ returns-3 : tie.Need-returns-3
 returns-3 c =
     let first = c .before .before in
     let judge = first .before .before in
-    second-decides (alike (judge .before)) (judge .judge .result) (judge .judge .ensures) _ _ (first .before .number .ensures) (first .if2 .left)
+    second-decides (alike (judge .before)) (judge .judge .result) (judge .judge .ensures) _ _
+    (first .before .number .ensures) (first .if2 .left)
     (c .before .judge2 .result) (c .before .judge2 .ensures) (c .number2 .ensures)
 
 pub check-spec : {M : Type 1} → statement M

@@ -24,7 +24,8 @@ returns-2 : tie.Need-returns-2
 returns-2 c =
     let end = c .before .before .before .before .before in
     ends-badly (end .before .before .before .before .if1 .left) (end .before .before .session .given .1)
-    (sym (end .fault-at-end .ensures) ∙ c .before .before .before .before .if2 .taken) (c .before .before .fault-line .ensures)
+    (sym (end .fault-at-end .ensures) ∙ c .before .before .before .before .if2 .taken)
+    (c .before .before .fault-line .ensures)
 
 enum-told : tie.Need-enum-told
 enum-told c = search needs

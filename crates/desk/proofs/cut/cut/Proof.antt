@@ -21,7 +21,8 @@ returns : tie.Need-returns
 returns c =
     cut-1 _ (c .refused .ensures) (if-no (c .before .before .served .ensures) (not-true _ (c .before .if1 .taken)))
 
-within : (c : tie.Else1) → (let a = c .before .before .before .before .before .args in Served (a .n) (a .first .now) (a .second .now))
+within : (c : tie.Else1) →
+    (let a = c .before .before .before .before .before .args in Served (a .n) (a .first .now) (a .second .now))
 within c = if-yes (c .before .served .ensures) (not-false _ (c .if1 .left))
 
 mul-if2 : tie.Need-mul-if2

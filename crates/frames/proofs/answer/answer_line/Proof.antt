@@ -9,18 +9,21 @@ use Rattle.frames.proofs.answer.answer_line.Tie as tie
 
 returns : tie.Need-returns
 returns c =
-    let a = c .before .before .before .args in refused _ _ _ (omega (arith, length-answer (a .pieces) (a .answer .now)))
+    let a = c .before .before .before .args in
+    refused _ _ _ (omega (arith, length-answer (a .pieces) (a .answer .now)))
 
 sub-room : tie.Need-sub-room
 sub-room c = search needs
 
 returns-2 : tie.Need-returns-2
 returns-2 c =
-    let a = c .before .before .before .before .args in refused _ _ _ (omega (arith, length-answer (a .pieces) (a .answer .now)))
+    let a = c .before .before .before .before .args in
+    refused _ _ _ (omega (arith, length-answer (a .pieces) (a .answer .now)))
 
 returns-3 : tie.Need-returns-3
 returns-3 c =
-    let a = c .before .before .before .before .before .args in refused _ _ _ (omega (arith, length-answer (a .pieces) (a .answer .now)))
+    let a = c .before .before .before .before .before .args in
+    refused _ _ _ (omega (arith, length-answer (a .pieces) (a .answer .now)))
 
 put-requires : tie.Need-put-requires
 put-requires c κs = search needs

@@ -34,7 +34,8 @@ same-length c = search needs
 returns-3 : tie.Need-returns-3
 returns-3 c =
     let a = c .before .before .before .before .before .before .before .args in
-    placed fault-line (a .out .now) (a .at) (omega arith) refl (byte-laid 0xEF (a .out .now) (a .at) (c .before .before .put .ensures))
+    placed fault-line (a .out .now) (a .at) (omega arith) refl
+    (byte-laid 0xEF (a .out .now) (a .at) (c .before .before .put .ensures))
 
 pub fault-line-spec : {M : Type 1} → statement M
 fault-line-spec =

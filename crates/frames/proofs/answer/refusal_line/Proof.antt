@@ -43,7 +43,8 @@ returns-3 : tie.Need-returns-3
 returns-3 c =
     let a = c .before .before .before .before .before .before .before .before .before .before .before .args in
     placed (refusal-line (a .number)) (a .out .now) (a .at) (omega arith) refl
-    (line-laid 0xE0 (a .number) [] (a .out .now) (a .at) (c .before .before .before .before .before .before .put .ensures)
+    (line-laid 0xE0 (a .number) [] (a .out .now) (a .at)
+    (c .before .before .before .before .before .before .put .ensures)
     (c .before .before .put2 .ensures) refl (omega arith))
 
 pub refusal-line-spec : {M : Type 1} → statement M

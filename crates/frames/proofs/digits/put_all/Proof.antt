@@ -11,7 +11,8 @@ use Rattle.frames.proofs.digits.put_all.Tie as tie
 
 abbrev Inv-loop : tie.InvT-loop
 Inv-loop bytes out₀ at i₀ to₀ out i to =
-    (length out ≡ length out₀) × (to ≡ at + 2 * i) × (i ≤ length bytes) × (out ≡ sets out₀ at (digits-of (take i bytes)))
+    (length out ≡ length out₀) × (to ≡ at + 2 * i) × (i ≤ length bytes)
+    × (out ≡ sets out₀ at (digits-of (take i bytes)))
 
 abbrev μ-loop : tie.MeasureT-loop
 μ-loop bytes out₀ at i₀ to₀ out i to = length bytes - i
@@ -40,7 +41,8 @@ loop-again c = (
   omega arith,
   omega arith,
   put-more _ _ _ _ (c .before .before .before .before .before .loop-test .taken)
-      (c .before .before .before .before .before .before .loop .inv .1) (c .before .before .before .before .before .before .loop .inv .3)
+      (c .before .before .before .before .before .before .loop .inv .1)
+      (c .before .before .before .before .before .before .loop .inv .3)
       (c .before .before .put .ensures),
 )
 

@@ -12,20 +12,23 @@ wrapping-sub-u8-requires-2 : tie.Need-wrapping-sub-u8-requires-2
 wrapping-sub-u8-requires-2 c κs = search needs
 
 returns : tie.Need-returns
-returns c = decimal (c .before .before .before .args .c) (c .before .before .wrapping-sub-u8 .result) (omega arith) (c .if1 .taken)
+returns c = decimal (c .before .before .before .args .c) (c .before .before .wrapping-sub-u8 .result)
+    (omega arith) (c .if1 .taken)
 
 add-result : tie.Need-add-result
 add-result c = search needs
 
 returns-2 : tie.Need-returns-2
 returns-2 c =
-    letter (c .before .before .before .before .args .c) (c .before .before .before .wrapping-sub-u8 .result) (omega arith)
+    letter (c .before .before .before .before .args .c)
+    (c .before .before .before .wrapping-sub-u8 .result) (omega arith)
     (c .before .before .wrapping-sub-u82 .result) (omega arith) (c .before .if1 .left)
     (c .if2 .taken)
 
 returns-3 : tie.Need-returns-3
 returns-3 c =
-    no-digit (c .before .before .before .before .args .c) (c .before .before .before .wrapping-sub-u8 .result) (omega arith)
+    no-digit (c .before .before .before .before .args .c)
+    (c .before .before .before .wrapping-sub-u8 .result) (omega arith)
     (c .before .before .wrapping-sub-u82 .result) (omega arith) (c .before .if1 .left)
     (search needs) (search needs) (c .if2 .left)
 

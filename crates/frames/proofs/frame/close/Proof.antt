@@ -14,7 +14,8 @@ returns-3 c = closes-part _ _ _ (c .before .before .before .if1 .left) (c .befor
 
 returns-4 : tie.Need-returns-4
 returns-4 c =
-    closes-early _ _ _ (c .before .before .before .before .before .if1 .left) (c .before .before .before .before .if2 .left)
+    closes-early _ _ _ (c .before .before .before .before .before .if1 .left)
+    (c .before .before .before .before .if2 .left)
     (c .before .before .if3 .left) (c .if4 .taken)
 
 returns-5 : tie.Need-returns-5

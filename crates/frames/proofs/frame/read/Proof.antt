@@ -34,7 +34,8 @@ returns-2 c =
 
 returns-3 : tie.Need-returns-3
 returns-3 c =
-    reads-over _ _ _ _ _ (c .before .before .before .before .before .worth .ensures) (c .before .before .before .before .if1 .left)
+    reads-over _ _ _ _ _ (c .before .before .before .before .before .worth .ensures)
+    (c .before .before .before .before .if1 .left)
     (c .before .before .if2 .left) (c .if3 .taken)
 
 add-t13 : tie.Need-add-t13
@@ -43,13 +44,15 @@ add-t13 c = search needs
 returns-4 : tie.Need-returns-4
 returns-4 c =
     reads-digit _ _ _ _ _ (c .before .before .before .before .before .before .before .before .worth .ensures)
-    (c .before .before .before .before .before .before .before .if1 .left) (c .before .before .before .before .before .if2 .left)
+    (c .before .before .before .before .before .before .before .if1 .left)
+    (c .before .before .before .before .before .if2 .left)
     (c .before .before .before .if3 .left) (c .before .if4 .taken)
 
 returns-5 : tie.Need-returns-5
 returns-5 c =
     reads-full _ _ _ _ _ (c .before .before .before .before .before .before .before .before .worth .ensures)
-    (c .before .before .before .before .before .before .before .if1 .left) (c .before .before .before .before .before .if2 .left)
+    (c .before .before .before .before .before .before .before .if1 .left)
+    (c .before .before .before .before .before .if2 .left)
     (c .before .before .before .if3 .left) (c .before .if4 .left) (c .if5 .taken)
 
 number-requires : tie.Need-number-requires

@@ -1,6 +1,7 @@
 -- `take`: each return is one law of `Turning`.
 use borrow.Author.Needs.{needs}
-use Rattle.frames.proofs.Turning.{second-on, second-frame, second-long, second-bad, first-on, first-frame, first-bad}
+use Rattle.frames.proofs.Turning.{second-on, second-frame, second-long, second-bad}
+use Rattle.frames.proofs.Turning.{first-on, first-frame, first-bad}
 use Rattle.frames.proofs.turn.take.Statement.{statement}
 use Rattle.frames.proofs.turn.take.Tie as tie
 
@@ -45,7 +46,8 @@ same-length-4 c = search needs
 
 returns-4 : tie.Need-returns-4
 returns-4 c =
-    second-bad _ _ _ _ (c .before .before .before .before .before .if1 .taken) (c .before .before .before .read .ensures)
+    second-bad _ _ _ _ (c .before .before .before .before .before .if1 .taken)
+    (c .before .before .before .read .ensures)
     (c .enum-told .given .1)
 
 read-requires-2 : tie.Need-read-requires-2
@@ -84,7 +86,8 @@ same-length-7 c = search needs
 
 returns-7 : tie.Need-returns-7
 returns-7 c =
-    first-bad _ _ _ _ (c .before .before .before .before .before .if1 .left) (c .before .before .before .read2 .ensures)
+    first-bad _ _ _ _ (c .before .before .before .before .before .if1 .left)
+    (c .before .before .before .read2 .ensures)
     (c .enum-told2 .given .1)
 
 pub take-spec : {M : Type 1} → statement M

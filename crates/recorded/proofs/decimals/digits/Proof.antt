@@ -34,7 +34,8 @@ unfolding natural-from word-at word-end
 returns c =
     let a = c .before .before .before .before .before .before .args in
     let l = c .before .before .before .before .loop in
-    let stops = word-stops (a .text .now) (l .i) (c .before .before .before .loop-test .taken) (c .before .if1 .taken) in
+    let stops =
+    word-stops (a .text .now) (l .i) (c .before .before .before .loop-test .taken) (c .before .if1 .taken) in
     let read = sym (ap (number (l .m)) stops) ∙ l .inv .0 in
     c .ended .ensures ∙ word-read _ (l .m) (a .at) (l .i) read (omega (arith, l .inv .1, ap length stops))
 

@@ -51,7 +51,8 @@ returns c =
     let w = c .before .before .before in
     let l = c .before .before .before .before .before .loop-test .taken in
     let e = sym (c .before .before .sees-all .ensures) ∙ c .before .if1 .taken in
-    first-at (central w) (piece w) (w .wide .ensures) l (c .before .before .before .before .before .before .loop .inv) e
+    first-at (central w) (piece w) (w .wide .ensures) l
+    (c .before .before .before .before .before .before .loop .inv) e
 
 add-p : tie.Need-add-p Inv-loop μ-loop
 add-p c = search needs

@@ -73,7 +73,8 @@ add-p t c = omega (arith, c .before .before .before .before .pre .1 .1 .place)
 loop-holds : (t : ℕ) → walk-lines-lts.Need-loop-holds (walk-calls t) (walk-lines-at t) walk-lines.Post Inv μ
 loop-holds t c = walked-none (c .before .before .before .before .pre .1 .1) (c .wide .ensures)
 
-slice-read-wide-2 : (t : ℕ) → walk-lines-lts.Need-slice-read-wide-2 (walk-calls t) (walk-lines-at t) walk-lines.Post Inv μ
+slice-read-wide-2 : (t : ℕ) →
+    walk-lines-lts.Need-slice-read-wide-2 (walk-calls t) (walk-lines-at t) walk-lines.Post Inv μ
 slice-read-wide-2 t c =
     let v = c .before .before .loop .inv in
     omega (arith, c .before .loop-test .taken, v .behind, v .left .room)
@@ -81,7 +82,8 @@ slice-read-wide-2 t c =
 wide-requires-2 : (t : ℕ) → walk-lines-lts.Need-wide-requires-2 (walk-calls t) (walk-lines-at t) walk-lines.Post Inv μ
 wide-requires-2 t c κs = search needs
 
-write-range-requires : (t : ℕ) → walk-lines-lts.Need-write-range-requires (walk-calls t) (walk-lines-at t) walk-lines.Post Inv μ
+write-range-requires : (t : ℕ) →
+    walk-lines-lts.Need-write-range-requires (walk-calls t) (walk-lines-at t) walk-lines.Post Inv μ
 write-range-requires t c κs =
     let s = c .before .before .before .before .before .before .before .before .before .pre .1 in
     let v = c .before .before .before .before .loop .inv in
@@ -129,7 +131,8 @@ piece-requires t c κs =
 add-walk-lines : (t : ℕ) → write-range-lts.Need-add-walk-lines (range-calls t) (write-range-at t) write-range.Post
 add-walk-lines t c = omega (arith, c .before .before .before .piece .ensures .past)
 
-walk-lines-requires : (t : ℕ) → write-range-lts.Need-walk-lines-requires (range-calls t) (write-range-at t) write-range.Post
+walk-lines-requires : (t : ℕ) →
+    write-range-lts.Need-walk-lines-requires (range-calls t) (write-range-at t) write-range.Post
 walk-lines-requires t c κs =
     let s = c .before .before .before .before .before .before .before .before .pre .1 in
     let l = c .before .before .before .before .before .if1 .left in
@@ -143,11 +146,12 @@ range-length t c =
 
 range-returns : (t : ℕ) → write-range-lts.Need-returns-2 (range-calls t) (write-range-at t) write-range.Post
 range-returns t c =
-    let s = c .before .before .before .before .before .before .before .before .before .before .before .pre .1 in
+    let begun = c .before .before .before .before .before .before .before .before .before .before .before in
+    let s = begun .pre .1 in
     let l = c .before .before .before .before .before .before .before .before .if1 .left in
     let w = c .before .before .before .before .before .before .piece .ensures in
     let st = range-standing l (s .0 .2) (s .1) w in
-    let k = pairs-wide (c .before .before .before .before .before .before .before .before .before .before .before .args .pairs .now) in
+    let k = pairs-wide (begun .args .pairs .now) in
     wrote-both (range-more k _ _ l) w (standing-lines st (c .before .before .walk-lines .ensures))
 
 pub +walk-lines+write-range-spec : {M : Type 1} → statement M

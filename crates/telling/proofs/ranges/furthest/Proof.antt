@@ -22,7 +22,8 @@ wide : (c : tie.After-has Inv-loop μ-loop) → Wide (marked (c .before .before 
 wide c = pairs-wide (c .before .before .before .before .args .pairs .now)
 
 pair : (c : tie.After-has Inv-loop μ-loop) →
-    (let a = c .before .before .before .before .args in marked (a .pairs .now) (a .a) (c .before .before .loop .t)) ≡ c .has .result
+    (let a = c .before .before .before .before .args in
+    marked (a .pairs .now) (a .a) (c .before .before .loop .t)) ≡ c .has .result
 pair c =
     let a = c .before .before .before .before .args in
     let l = c .before .loop-test .taken in
@@ -55,7 +56,8 @@ loop-less c = omega arith
 loop-again : tie.Need-loop-again Inv-loop μ-loop
 loop-again c =
     let h = c .before .before .before .before .before .pre .1 in
-    let on = seek-on (wide (c .before)) h (c .before .before .before .loop .inv .2) (pair (c .before) ∙ c .if1 .left) in
+    let on =
+    seek-on (wide (c .before)) h (c .before .before .before .loop .inv .2) (pair (c .before) ∙ c .if1 .left) in
     (omega arith, omega arith, on (omega arith))
 
 add-result : tie.Need-add-result Inv-loop μ-loop

@@ -1,5 +1,6 @@
--- `terminal::chunk::read` meets its contract. The invariant is `So` of `Pairs`; what is left of the chunk falls with each pair.
--- In the answers `s` is the place after the call of `feed`, `l` the loop's head, and `a` the place where a pair is known.
+-- `terminal::chunk::read` meets its contract. The invariant is `So` of `Pairs`; what is left of the chunk falls with
+-- each pair. In the answers `s` is the place after the call of `feed`, `l` the loop's head, and `a` the place where a
+-- pair is known.
 use borrow.Author.Needs.{needs}
 use mathlib.Core.Path.{_≡_, refl, sym}
 use Prim.Native.Nat.{_-_}
@@ -13,7 +14,8 @@ use Rattle.terminal.proofs.chunk.read.Tie as tie
 
 abbrev Inv-loop : tie.InvT-loop
 Inv-loop chunk first₀ second₀ out₀ r₀ at₀ len₀ first second out r at len =
-    (length first ≡ length first₀) × (length second ≡ length second₀) × So r₀ first₀ second₀ chunk out₀ first second out r at len
+    (length first ≡ length first₀) × (length second ≡ length second₀)
+    × So r₀ first₀ second₀ chunk out₀ first second out r at len
 
 abbrev μ-loop : tie.MeasureT-loop
 μ-loop chunk first₀ second₀ out₀ r₀ at₀ len₀ first second out r at len = length chunk - at
@@ -121,7 +123,8 @@ returns-2 c =
     let so = l .loop .inv .2 in
     let lent = l .before .before .before .pre in
     let fed = s .before .before .feed .ensures .exact in
-    so-fault so lent fed (c .before .before .before .before .enum-told .given .1) (c .before .before .fault-line .ensures)
+    so-fault so lent fed (c .before .before .before .before .enum-told .given .1)
+    (c .before .before .fault-line .ensures)
 
 pub read-spec : {M : Type 1} → statement M
 read-spec =

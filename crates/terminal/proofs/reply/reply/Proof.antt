@@ -29,11 +29,13 @@ same-length c = search needs
 returns : tie.Need-returns
 returns c =
     let answer = c .before .before .before .before .before .before .before in
-    laid-refusal empty (answer .answer .ensures) (answer .before .before .before .pre) (c .before .before .before .before .if1 .taken)
+    laid-refusal empty (answer .answer .ensures) (answer .before .before .before .pre)
+    (c .before .before .before .before .if1 .taken)
     (c .before .before .refusal-line .ensures)
 
 cast-answer-line : tie.Need-cast-answer-line
-cast-answer-line c = omega (arith, small empty (c .before .before .before .before .answer .ensures) (c .before .if1 .left) .few)
+cast-answer-line c =
+    omega (arith, small empty (c .before .before .before .before .answer .ensures) (c .before .if1 .left) .few)
 
 array-share-prefix-room : tie.Need-array-share-prefix-room
 array-share-prefix-room c =

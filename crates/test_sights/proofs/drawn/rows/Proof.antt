@@ -9,7 +9,8 @@ use Rattle.test_sights.proofs.drawn.rows.Statement.{statement}
 use Rattle.test_sights.proofs.drawn.rows.Tie as tie
 
 abbrev Inv-loop : tie.InvT-loop
-Inv-loop text at n out₀ p₀ cells₀ good₀ i₀ out p cells good i = (length out ≡ length out₀) × (cells ≤ row * i) × (i ≤ n)
+Inv-loop text at n out₀ p₀ cells₀ good₀ i₀ out p cells good i =
+    (length out ≡ length out₀) × (cells ≤ row * i) × (i ≤ n)
 
 abbrev μ-loop : tie.MeasureT-loop
 μ-loop text at n out₀ p₀ cells₀ good₀ i₀ out p cells good i = n - i
