@@ -10,25 +10,25 @@ use lib.ListN.{length, getD, set, replicate, length-set, length-replicate}
 use lib.Seq.{getD-set-same, getD-set-other}
 use Rattle.limits.specs.Limits.{row, all-cells, place}
 use Rattle.rules.specs.Cells.{cell, Sees, InBoth}
-use Rattle.cutting.specs.Rows.{none, Tells, Veil, Both, Read}
-use Rattle.cutting.proofs.Values.{never}
+use Rattle.cutting.specs.Tells.{Tells, surely, never}
+use Rattle.cutting.specs.Rows.{none, Veil, Both, Read}
 
 -- ---- the test
-pub both-first : (first second : List ℕ) (x y : ℕ) → cell first x y ≡ 0 → Tells (InBoth first second x y) false
-both-first first second x y h = record { sure = λ e. never (sym e); denied = λ e s. s .0 h }
+pub both-first : (first second : List ℕ) (x y : ℕ) → cell first x y ≡ 0 → Tells false (InBoth first second x y)
+both-first first second x y h = never (λ s. s .0 h)
 
-pub both-second : (first second : List ℕ) (x y : ℕ) → cell second x y ≡ 0 → Tells (InBoth first second x y) false
-both-second first second x y h = record { sure = λ e. never (sym e); denied = λ e s. s .1 h }
+pub both-second : (first second : List ℕ) (x y : ℕ) → cell second x y ≡ 0 → Tells false (InBoth first second x y)
+both-second first second x y h = never (λ s. s .1 h)
 
 pub both-open : (first second : List ℕ) (x y : ℕ) → ¬ (cell first x y ≡ 0) → ¬ (cell second x y ≡ 0) →
-    Tells (InBoth first second x y) true
-both-open first second x y h k = record { sure = λ e. (h, k); denied = λ e. never e }
+    Tells true (InBoth first second x y)
+both-open first second x y h k = surely (h, k)
 
 -- what is stored by it
-pub both-is : {S : Type 0} (b : Bool) {c z : ℕ} → Tells S b → (b ≡ true → c ≡ 1) × (b ≡ false → c ≡ 0) →
+pub both-is : {S : Type 0} (b : Bool) {c z : ℕ} → Tells b S → (b ≡ true → c ≡ 1) × (b ≡ false → c ≡ 0) →
     (b ≡ true → z ≡ 0) × (b ≡ false → z ≡ none) → Both S c z
 both-is true t f g =
-    let s = t .sure refl in record {
+    let s = t .sure tt in record {
       cut = λ h e. omega (arith, f .0 refl, e);
       uncut = λ h. s;
       clear = λ h. g .0 refl;
@@ -36,10 +36,10 @@ both-is true t f g =
       veils = λ h. absurd (h (g .0 refl));
     }
 both-is false t f g =
-    let s = t .denied refl in record {
-      cut = λ h. absurd (s h);
+    record {
+      cut = λ h. absurd (t .told h);
       uncut = λ h. absurd (h (f .1 refl));
-      clear = λ h. absurd (s h);
+      clear = λ h. absurd (t .told h);
       lifted = λ h. absurd (omega (arith, h, g .1 refl));
       veils = λ h. g .1 refl;
     }

@@ -15,7 +15,7 @@ use Rattle.rules.specs.Columns.{pays, Least, Lane}
 use Rattle.rules.specs.Small.{least-same}
 use Rattle.cutting.specs.Rows.{none, lane, Veil, Blank, Reach, LaneOf, Laned}
 use Rattle.cutting.specs.Marks.{fitsIn, Lowest, Lanes}
-use Rattle.cutting.proofs.Values.{never}
+use Rattle.cutting.proofs.Values.{clash}
 
 -- ---- the cheapest step, of those to corners below t
 pub record Reaching (val g : List ℕ) (b t r : ℕ) : Type 0 where
@@ -192,7 +192,7 @@ module _ {veil val left right col : List ℕ} {i j x : ℕ} where
       go y p h (yes q) s = l .at y p q h
       go y p h (no q) s =
           let e : y ≡ x = omega arith in
-          never (sym h ∙ ap (λ (k : ℕ). fitsIn val left right i j k) e ∙ f)
+          clash (sym h ∙ ap (λ (k : ℕ). fitsIn val left right i j k) e ∙ f)
 
   pub lanes-more : {col′ : List ℕ} → x ≤ j → j < row → Laned veil val col col′ x j →
       Lanes veil val left right col i j x → Lanes veil val left right col′ i j (x + 1)
@@ -209,7 +209,7 @@ lanes-lowest {veil} {val} {left} {right} {before} {col} {i} {j} {x} w l =
     record { at = λ y p q h. go y p h (decLt y x) q }
   where
     go : (y : ℕ) → i ≤ y → fitsIn val left right i j y ≡ true → Dec (y < x) → y < x + 1 → LaneOf veil val col y j
-    go y p h (yes q) s = never (sym h ∙ w .before y p q)
+    go y p h (yes q) s = clash (sym h ∙ w .before y p q)
     go y p h (no q) s = let e : x ≡ y = omega arith in subst (λ (k : ℕ). LaneOf veil val col k j) e (l .lane-is)
 
 pub lanes-at : {veil val left right col : List ℕ} {i j t t′ : ℕ} → t ≡ t′ → Lanes veil val left right col i j t →

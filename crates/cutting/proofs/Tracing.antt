@@ -24,7 +24,7 @@ use Rattle.rules.specs.Trace.{line-narrow}
 use Rattle.cutting.specs.Rows.{none, Cut, LaneOf}
 use Rattle.cutting.specs.Marks.{restIn, fitsIn, pickIn, EveryIn, Lowest, Lanes, Ticks, Marked, Ahead, Tracing}
 use Rattle.cutting.proofs.Marking.{marked-says}
-use Rattle.cutting.proofs.Values.{never}
+use Rattle.cutting.proofs.Values.{clash}
 
 -- ---- what has been looked at may be said otherwise
 pub traced-seen : {cut may : ℕ → ℕ → Type 0} {choice : ℕ → ℕ → List ℕ} {m : ℕ}
@@ -157,7 +157,7 @@ module _ {cuts veil val left right pairs : List ℕ} {n i j : ℕ} (t : Tracing 
         where
           go : Dec (old-pick < x) → x ≤ old-pick
           go (no p) = omega arith
-          go (yes p) = never (sym pick-fit ∙ below-not old-pick (within .0) p)
+          go (yes p) = clash (sym pick-fit ∙ below-not old-pick (within .0) p)
 
       lowest-fits : fit x ≡ true
       lowest-fits = go (decLt x j)
@@ -198,7 +198,7 @@ module _ {cuts veil val left right pairs : List ℕ} {n i j : ℕ} (t : Tracing 
             λ c d k. ⊎-elim (λ z. old-up c d (t .traced .up c d z))
             (λ z. inr (i, j, M .kept i j h, z .0, narrow c d (z .0) .3)) (M .only c d k);
         down =
-            λ a b c d s k o l. ⊎-elim (λ z. old-down a b c d s z o l) (λ z. absurd (never a b s (narrow a b (z .0))))
+            λ a b c d s k o l. ⊎-elim (λ z. old-down a b c d s z o l) (λ z. absurd (clash a b s (narrow a b (z .0))))
             (M .only a b k);
       }
         where
@@ -236,10 +236,10 @@ module _ {cuts veil val left right pairs : List ℕ} {n i j : ℕ} (t : Tracing 
               (subst (λ (x : ℕ). On x (choiceOf none one (cell val) (t .road) x b) c d) (z .0) o)) l)
               (now a b s)
 
-          never : (a b : ℕ) → Ahead (i + 1) j a b →
+          clash : (a b : ℕ) → Ahead (i + 1) j a b →
               (i ≤ a) × (a < b) × (b ≤ j) × (b + i < j + a) × Way (Cut cuts) (λ a b. cell val a b < none) a b → ⊥
-          never a b (inl p) q = omega (arith, q .2)
-          never a b (inr p) q = omega (arith, p .0, p .1, q .0, q .3)
+          clash a b (inl p) q = omega (arith, q .2)
+          clash a b (inr p) q = omega (arith, p .0, p .1, q .0, q .3)
 
       tracing-marked : Tracing cuts veil val left right n pairs′ (i + 1) j
       tracing-marked = record {

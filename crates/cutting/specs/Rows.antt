@@ -1,6 +1,5 @@
 -- Tables as lists of cells, and what the functions that work on rows promise: a row has a lane for each centre.
 use mathlib.Core.Path.{_≡_}
-use mathlib.Core.Bool.{Bool, true, false}
 use mathlib.Core.List.{List}
 use Prim.Native.Nat.{ℕ, suc, _+_, _*_, _<_, _≤_, min}
 use lib.ListN.{length, getD}
@@ -21,11 +20,6 @@ lane r x = getD r x 0
 -- a b may be a cut
 abbrev pub Cut : List ℕ → ℕ → ℕ → Type 0
 Cut cuts a b = ¬ (cell cuts a b ≡ 0)
-
--- what a test says of P
-pub record Tells (P : Type 0) (r : Bool) : Type 0 where
-  pub sure : r ≡ true → P
-  pub denied : r ≡ false → ¬ P
 
 -- two corners, in rising order
 abbrev pub Line : ℕ → ℕ → Type 0

@@ -10,7 +10,7 @@ mod lanes;
 mod lines;
 mod marks;
 mod pieces;
-mod sight;
+mod reading;
 
 use cells::cell;
 use lanes::NONE;
@@ -19,7 +19,7 @@ use limits::FEWEST_CORNERS;
 use limits::MOST_CORNERS;
 use lines::solve;
 use marks::trace;
-use sight::read;
+use reading::read;
 ghost use mathlib.Core.Path.{_≡_};
 ghost use lib.ListN.{length};
 ghost use Rattle.limits.specs.Limits.{all-cells};

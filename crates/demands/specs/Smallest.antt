@@ -22,7 +22,7 @@ use Rattle.rules.specs.Regions.{pieces-regions}
 use Rattle.rules.specs.Uses.{uses}
 use Rattle.rules.specs.Valid.{same-set, uses-tree}
 use Rattle.rules.specs.Agree.{Agree, stars-agree, valid-same, first-same, layout-same}
-use Rattle.rules.specs.Lays.{Seen, hasCentre, has-centre, lays, lays-layout}
+use Rattle.rules.specs.Lays.{Says, hasCentre, has-centre, lays, lays-layout}
 use Rattle.rules.specs.Listing.{listing, listing-all}
 use Rattle.rules.specs.Pick.{lightest, pick}
 use Rattle.rules.specs.Computed.{none-listed, listed-cutting, pick-first}
@@ -80,15 +80,15 @@ module _ (first second : List ℤ) where
   -- ---- the plan that the tests make agrees with 01's
   abbrev tested : Plan
   tested = record {
-    cut = Seen both-test;
+    cut = Says both-test;
     piece = λ S. T (centre-test S);
     weight = one;
-    centre = Lowest (Seen both-test);
+    centre = Lowest (Says both-test);
   }
 
   agree : Agree (corners first) tested (plan first second)
   agree =
-      let A : Agree (corners first) (stars (Seen both-test) (Seen both-test)) (plan first second) =
+      let A : Agree (corners first) (stars (Says both-test) (Says both-test)) (plan first second) =
       stars-agree (λ a b i. (cut-tells a b .sure, cut-tells a b .told))
       (λ x y h g. (both-tells x y .sure, both-tells x y .told)) in
       record {

@@ -17,7 +17,7 @@ use Rattle.cutting.specs.Answer as cutting
 use Rattle.cutting.specs.declared.Searched.{Searched}
 use Rattle.cutting.specs.declared.Searched.the-variants as searched
 use Rattle.telling.specs.Answer as telling
-use Rattle.telling.specs.First.{told, first-given}
+use Rattle.telling.specs.First.{served-told, first-given}
 use Rattle.telling.specs.declared.Told.{Told}
 use Rattle.telling.specs.declared.Told.the-variants as is
 use Rattle.desk.specs.Answer.{result}
@@ -73,9 +73,9 @@ module _ {n : ℕ} {first second : List ℕ} where
 
   -- ---- the telling, of a cutting that was found
   module _ {pairs before : List ℕ} (m : Marked n first second pairs) (roomy : Roomy n (length before)) where
-    tells-given : {x : Result} → telling.Tells n pairs first second before x →
+    telling-given : {x : Result} → telling.Telling n pairs first second before x →
         (x .number ≡ 0) × Carries (LowestOrZero (InBoth first second)) (pieces n (marked pairs)) before x
-    tells-given = let s = m .served in told (record {
+    telling-given = let s = m .served in served-told (record {
       enough = s .enough;
       few = s .few;
       pairs-whole = m .whole;
@@ -83,20 +83,21 @@ module _ {n : ℕ} {first second : List ℕ} where
       second-whole = s .second-whole;
     }) roomy
 
-    module _ (after : List ℕ) (r : Told) (h : telling.Tells n pairs first second before (telling.result r after)) where
+    module _ (after : List ℕ) (r : Told)
+        (h : telling.Telling n pairs first second before (telling.result r after)) where
       pub told-served : r ≡ is.Unserved → ⊥
-      told-served e = omega (arith, tells-given h .0, ap (λ (q : Told). telling.result q after .number) e)
+      told-served e = omega (arith, telling-given h .0, ap (λ (q : Told). telling.result q after .number) e)
 
       pub told-roomy : r ≡ is.Short → ⊥
-      told-roomy e = omega (arith, tells-given h .0, ap (λ (q : Told). telling.result q after .number) e)
+      told-roomy e = omega (arith, telling-given h .0, ap (λ (q : Told). telling.result q after .number) e)
 
       pub cut-0 : {count bytes : ℕ} → r ≡ is.Pieces count bytes →
           Cuts n first second before (telling.result (is.Pieces count bytes) after)
       cut-0 {count} {bytes} e =
           let x = telling.result (is.Pieces count bytes) after in
-          let t = subst (λ (q : Told). telling.Tells n pairs first second before (telling.result q after)) e h in
+          let t = subst (λ (q : Told). telling.Telling n pairs first second before (telling.result q after)) e h in
           record {
             numbered = inr (m .served, inr (roomy, inr ((marked pairs, m .is-first .valid), refl)));
             refused = λ lt. absurd (omega arith);
-            given = λ z. first-given (m .served .enough) (m .is-first) (tells-given t .1);
+            given = λ z. first-given (m .served .enough) (m .is-first) (telling-given t .1);
           }

@@ -10,7 +10,7 @@ use lib.IntN.{ℤ}
 use lib.ListN.{length, take, drop}
 use lib.Seq.{drop-drop}
 use Rattle.frames.specs.Frames.{pair, fault}
-use Rattle.frames.specs.Reader.{fresh, fed-by, feeds, told-by, from, steps, ends-in-fault}
+use Rattle.frames.specs.Reader.{fresh, fed-by, feeds, events-by, from, steps, ends-in-fault}
 use Rattle.frames.specs.Promise.{says, Feeding}
 use Rattle.frames.specs.declared.Reader.{Reader}
 use Rattle.frames.specs.declared.Fed.{Fed}
@@ -26,7 +26,7 @@ module _ (chunk more : List ℕ) where
   one-step : (cs : List ℕ) (i : ℕ) → cs ≡ drop (i + 1) chunk →
       ((r : Reader) (f g : List ℤ) → from r f g (cs ++ more) ≡ says (feeds r f g (i + 1) cs) chunk more) →
       (s : Step × List ℤ × List ℤ) →
-      told-by s (λ r f g. from r f g (cs ++ more)) ≡ says (fed-by s i (λ r f g. feeds r f g (i + 1) cs)) chunk more
+      events-by s (λ r f g. from r f g (cs ++ more)) ≡ says (fed-by s i (λ r f g. feeds r f g (i + 1) cs)) chunk more
   one-step cs i e again (step.On r, f, g) = again r f g
   one-step cs i e again (step.Pair n m, f, g) = rw (← e)
   one-step cs i e again (step.Fault, f, g) = refl
@@ -70,7 +70,7 @@ pub feeding : {r : Reader} {chunk : List ℕ} {i : ℕ} {f g : List ℤ} {x : Fe
 feeding {r} {chunk} {i} {f} {g} q =
     record {
       exact = q;
-      tells = λ more.
+      means = λ more.
           reports chunk more (drop i chunk) r f g i refl
           ∙ sym (ap (λ (t : Fed × List ℤ × List ℤ). says t chunk more) q);
     }
@@ -80,14 +80,14 @@ module _ {r : Reader} {chunk : List ℕ} {i : ℕ} {f g : List ℤ} {x : Fed} {f
     (p : Feeding r chunk i f g x f′ g′) where
   pub feed-more : {r′ : Reader} → x ≡ fed.More r′ → (more : List ℕ) →
       from r f g (drop i chunk ++ more) ≡ from r′ f′ g′ more
-  feed-more e more = p .tells more ∙ rw e
+  feed-more e more = p .means more ∙ rw e
 
   pub feed-pair : {n m next : ℕ} → x ≡ fed.Pair n m next → (more : List ℕ) →
       from r f g (drop i chunk ++ more) ≡ pair (take n f′) (take m g′) ∷ from fresh f′ g′ (drop next chunk ++ more)
-  feed-pair e more = p .tells more ∙ rw e
+  feed-pair e more = p .means more ∙ rw e
 
   pub feed-fault : x ≡ fed.Fault → (more : List ℕ) → from r f g (drop i chunk ++ more) ≡ fault ∷ []
-  feed-fault e more = p .tells more ∙ rw e
+  feed-fault e more = p .means more ∙ rw e
 
 -- the end of an input
 pub from-end : (r : Reader) (f g : List ℤ) → from r f g [] ≡ cond (ends-in-fault r) (fault ∷ []) []

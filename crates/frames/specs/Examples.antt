@@ -47,18 +47,18 @@ pub record Row : Type 0 where
   pub pairs : ℕ
   pub faulty : Bool
 
-abbrev tells : List Event → ℕ → Bool → Bool
-tells [] zero f = not f
-tells [] (suc n) f = false
-tells (pair a b ∷ es) zero f = false
-tells (pair a b ∷ es) (suc n) f = tells es n f
-tells (fault ∷ []) zero f = f
-tells (fault ∷ []) (suc n) f = false
-tells (fault ∷ e ∷ es) n f = false
+abbrev has : List Event → ℕ → Bool → Bool
+has [] zero f = not f
+has [] (suc n) f = false
+has (pair a b ∷ es) zero f = false
+has (pair a b ∷ es) (suc n) f = has es n f
+has (fault ∷ []) zero f = f
+has (fault ∷ []) (suc n) f = false
+has (fault ∷ e ∷ es) n f = false
 
 abbrev all-right : List Row → Bool
 all-right [] = true
-all-right (r ∷ rows) = tells (events (r .input)) (r .pairs) (r .faulty) && all-right rows
+all-right (r ∷ rows) = has (events (r .input)) (r .pairs) (r .faulty) && all-right rows
 
 abbrev good : String → ℕ → Row
 good s n = record { input = characters s; pairs = n; faulty = false }

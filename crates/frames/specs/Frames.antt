@@ -34,9 +34,9 @@ abbrev pub led-by : ℕ → Text → Text
 led-by c t =
     cond (eqb c line-feed) (record { lines = [] ∷ t .lines; rest = t .rest }) (in-front c (t .lines) (t .rest))
 
-abbrev pub cut : List ℕ → Text
-cut [] = record { lines = []; rest = [] }
-cut (c ∷ input) = led-by c (cut input)
+abbrev pub in-lines : List ℕ → Text
+in-lines [] = record { lines = []; rest = [] }
+in-lines (c ∷ input) = led-by c (in-lines input)
 
 -- ---- the bytes of a line: two digits make a byte, the high one first; none where a character is no digit or one is
 -- left over
@@ -98,14 +98,14 @@ paired (some a) (some b) more = pair a b ∷ more
 
 -- the lines are taken two by two. An input that ends inside a line ends with a line of another form. One line with no
 -- line after it is a 10 after which the input ends, or no line of a pair at all: a fault in every case.
-abbrev pub told : List (List ℕ) → List ℕ → List Event
-told [] [] = []
-told [] (c ∷ r) = fault ∷ []
-told (a ∷ []) r = fault ∷ []
-told (a ∷ b ∷ more) r = paired (frame first-tag a) (frame second-tag b) (told more r)
+abbrev pub events-of : List (List ℕ) → List ℕ → List Event
+events-of [] [] = []
+events-of [] (c ∷ r) = fault ∷ []
+events-of (a ∷ []) r = fault ∷ []
+events-of (a ∷ b ∷ more) r = paired (frame first-tag a) (frame second-tag b) (events-of more r)
 
 abbrev pub events : List ℕ → List Event
-events input = told (cut input .lines) (cut input .rest)
+events input = events-of (in-lines input .lines) (in-lines input .rest)
 
 -- ---- the lines of an answer
 -- 01: "one line of the same digits, ended by a line feed"

@@ -19,7 +19,7 @@ says (fed.More r, f, g) chunk more = from r f g more
 says (fed.Pair n m next, f, g) chunk more = pair (take n f) (take m g) ∷ from fresh f g (drop next chunk ++ more)
 says (fed.Fault, f, g) chunk more = fault ∷ []
 
--- `tells` is the meaning; `exact` leaves no second result and no second buffer, for any reader and any buffers
+-- `means` is the meaning; `exact` leaves no second result and no second buffer, for any reader and any buffers
 pub record Feeding (reader : Reader) (chunk : List ℕ) (i : ℕ) (f g : List ℤ) (x : Fed) (f′ g′ : List ℤ) : Type 0 where
   pub exact : _≡_ {A = Fed × List ℤ × List ℤ} (x, f′, g′) (feeds reader f g i (drop i chunk))
-  pub tells : (more : List ℕ) → from reader f g (drop i chunk ++ more) ≡ says (x, f′, g′) chunk more
+  pub means : (more : List ℕ) → from reader f g (drop i chunk ++ more) ≡ says (x, f′, g′) chunk more

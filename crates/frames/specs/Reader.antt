@@ -103,11 +103,11 @@ unfoldable pub ends-in-fault : Reader → Bool
 ends-in-fault r = cond (r .second) true (cond (r .line .head) (not (eqb (r .line .part) 0)) true)
 
 -- ---- what an input tells from a reader on: `fault_at_end` at its end, and else byte for byte
-abbrev pub told-by : Step × List ℤ × List ℤ → (Reader → List ℤ → List ℤ → List Event) → List Event
-told-by (step.On r, f, g) more = more r f g
-told-by (step.Pair n m, f, g) more = pair (take n f) (take m g) ∷ more fresh f g
-told-by (step.Fault, f, g) more = fault ∷ []
+abbrev pub events-by : Step × List ℤ × List ℤ → (Reader → List ℤ → List ℤ → List Event) → List Event
+events-by (step.On r, f, g) more = more r f g
+events-by (step.Pair n m, f, g) more = pair (take n f) (take m g) ∷ more fresh f g
+events-by (step.Fault, f, g) more = fault ∷ []
 
 unfoldable pub from : Reader → List ℤ → List ℤ → List ℕ → List Event
 from r f g [] = cond (ends-in-fault r) (fault ∷ []) []
-from r f g (c ∷ cs) = told-by (steps r f g c) (λ r′ f′ g′. from r′ f′ g′ cs)
+from r f g (c ∷ cs) = events-by (steps r f g c) (λ r′ f′ g′. from r′ f′ g′ cs)

@@ -12,11 +12,11 @@ use borrow.Author.Tests.{eq-eqb, ne-eqb, le-leb}
 use lib.IntN.{ℤ}
 use lib.ListN.{length, take, length-append}
 use lib.Seq.{append-snoc}
-use Rattle.frames.specs.Frames.{line-feed, first-tag, second-tag, frame, Text, in-front, led-by, cut}
+use Rattle.frames.specs.Frames.{line-feed, first-tag, second-tag, frame, Text, in-front, led-by, in-lines}
 use Rattle.limits.specs.Limits.{most-numbers}
-use Rattle.frames.specs.Frames.{Event, pair, fault, paired, told, events}
+use Rattle.frames.specs.Frames.{Event, pair, fault, paired, events-of, events}
 use Rattle.frames.specs.Reader.{nothing-read, fresh, reads, on-first, on-second}
-use Rattle.frames.specs.Reader.{steps, ends-in-fault, told-by, from}
+use Rattle.frames.specs.Reader.{steps, ends-in-fault, events-by, from}
 use Rattle.frames.specs.Bytes.{bytes-length}
 use Rattle.frames.specs.Holds.{Holds, in-head, in-body, holds-nothing, Doomed, Then}
 use Rattle.frames.specs.Keeps.{keeps}
@@ -51,36 +51,38 @@ onto-feed : (pre : List ℕ) (c : ℕ) (t : Text) → c ≡ line-feed →
 onto-feed pre c t e = rw (eq-eqb c line-feed e, append-nil pre)
 
 -- ---- what the lines tell, by whose turn it is
-abbrev told-second : List ℤ → List (List ℕ) → List ℕ → List Event
-told-second a [] r = fault ∷ []
-told-second a (b ∷ more) r = paired (some a) (frame second-tag b) (told more r)
+abbrev events-second : List ℤ → List (List ℕ) → List ℕ → List Event
+events-second a [] r = fault ∷ []
+events-second a (b ∷ more) r = paired (some a) (frame second-tag b) (events-of more r)
 
 first-then-second : (l : List ℕ) (ls : List (List ℕ)) (r : List ℕ) {a : List ℤ} → frame first-tag l ≡ some a →
-    told (l ∷ ls) r ≡ told-second a ls r
+    events-of (l ∷ ls) r ≡ events-second a ls r
 first-then-second l [] r e = refl
 first-then-second l (b ∷ ls) r e = rw e
 
-told-none : (l : List ℕ) (ls : List (List ℕ)) (r : List ℕ) → frame first-tag l ≡ none → told (l ∷ ls) r ≡ fault ∷ []
-told-none l [] r e = refl
-told-none l (b ∷ ls) r e = rw e
+events-none : (l : List ℕ) (ls : List (List ℕ)) (r : List ℕ) → frame first-tag l ≡ none →
+    events-of (l ∷ ls) r ≡ fault ∷ []
+events-none l [] r e = refl
+events-none l (b ∷ ls) r e = rw e
 
-told-rest : (r : List ℕ) → 0 < length r → told [] r ≡ fault ∷ []
-told-rest [] h = absurd (omega arith)
-told-rest (c ∷ r) h = refl
+events-rest : (r : List ℕ) → 0 < length r → events-of [] r ≡ fault ∷ []
+events-rest [] h = absurd (omega arith)
+events-rest (c ∷ r) h = refl
 
 -- of a doomed line comes a fault, at its end or at the input's
-module _ (tag : ℕ) (tells : List (List ℕ) → List ℕ → List Event)
-    (tells-none : (l : List ℕ) (ls : List (List ℕ)) (r : List ℕ) → frame tag l ≡ none → tells (l ∷ ls) r ≡ fault ∷ [])
-    (tells-rest : (r : List ℕ) → 0 < length r → tells [] r ≡ fault ∷ []) where
+module _ (tag : ℕ) (read-as : List (List ℕ) → List ℕ → List Event)
+    (read-as-none : (l : List ℕ) (ls : List (List ℕ)) (r : List ℕ) → frame tag l ≡ none →
+    read-as (l ∷ ls) r ≡ fault ∷ [])
+    (read-as-rest : (r : List ℕ) → 0 < length r → read-as [] r ≡ fault ∷ []) where
   doomed : (pre : List ℕ) (c : ℕ) (t : Text) → Doomed tag pre c →
-      fault ∷ [] ≡ tells (onto pre (led-by c t) .lines) (onto pre (led-by c t) .rest)
-  doomed pre c t (inl (e, k)) = rw (onto-feed pre c t e) (sym (tells-none pre (t .lines) (t .rest) k))
+      fault ∷ [] ≡ read-as (onto pre (led-by c t) .lines) (onto pre (led-by c t) .rest)
+  doomed pre c t (inl (e, k)) = rw (onto-feed pre c t e) (sym (read-as-none pre (t .lines) (t .rest) k))
   doomed pre c t (inr (n, k)) = rw (ne-eqb c line-feed n) (go (t .lines) (t .rest))
     where
       go : (ls : List (List ℕ)) (r : List ℕ) →
-          fault ∷ [] ≡ tells (onto pre (in-front c ls r) .lines) (onto pre (in-front c ls r) .rest)
-      go [] r = sym (tells-rest (pre ++ c ∷ r) (omega (arith, length-append pre (c ∷ r))))
-      go (l ∷ ls) r = sym (tells-none (pre ++ c ∷ l) ls r (k l))
+          fault ∷ [] ≡ read-as (onto pre (in-front c ls r) .lines) (onto pre (in-front c ls r) .rest)
+      go [] r = sym (read-as-rest (pre ++ c ∷ r) (omega (arith, length-append pre (c ∷ r))))
+      go (l ∷ ls) r = sym (read-as-none (pre ++ c ∷ l) ls r (k l))
 
 -- ---- the reader
 data Midway (r : Reader) (f g : List ℤ) (pre : List ℕ) : Type 0 where
@@ -88,22 +90,22 @@ data Midway (r : Reader) (f g : List ℤ) (pre : List ℕ) : Type 0 where
   second : r .second ≡ true → r .numbers ≤ length f → Holds second-tag (r .line) g pre → Midway r f g pre
 
 abbrev turn : Reader → List ℤ → List (List ℕ) → List ℕ → List Event
-turn r f = cond (r .second) (told-second (take (r .numbers) f)) told
+turn r f = cond (r .second) (events-second (take (r .numbers) f)) events-of
 
-abbrev Tells : List ℕ → Type 0
-Tells xs =
+abbrev Agrees : List ℕ → Type 0
+Agrees xs =
     (r : Reader) (f g : List ℤ) (pre : List ℕ) → Midway r f g pre → most-numbers ≤ length f → most-numbers ≤ length g →
-    from r f g xs ≡ turn r f (onto pre (cut xs) .lines) (onto pre (cut xs) .rest)
+    from r f g xs ≡ turn r f (onto pre (in-lines xs) .lines) (onto pre (in-lines xs) .rest)
 
 -- ---- the input ends
 end-first : (r : Reader) (f : List ℤ) (pre : List ℕ) → r .second ≡ false → Holds first-tag (r .line) f pre →
-    cond (ends-in-fault r) (fault ∷ []) [] ≡ told [] (pre ++ [])
+    cond (ends-in-fault r) (fault ∷ []) [] ≡ events-of [] (pre ++ [])
 unfolding ends-in-fault
 end-first r f [] t (in-head h short p) = rw (t, h, eq-eqb (r .line .part) 0 (p .counted))
 end-first r f (c ∷ pre) t (in-head h short p) = rw (t, h, ne-eqb (r .line .part) 0 (λ k. omega (arith, k, p .counted)))
 end-first r f pre t (in-body h whole cs body n e p b) =
     rw (t, h)
-    (sym (told-rest (pre ++ [])
+    (sym (events-rest (pre ++ [])
     (rw (append-nil pre, e) (omega (arith, length-append whole cs, bytes-length whole (b .read))))))
 
 end-second : (r : Reader) → r .second ≡ true → cond (ends-in-fault r) (fault ∷ []) [] ≡ fault ∷ []
@@ -111,53 +113,54 @@ unfolding ends-in-fault
 end-second r t = rw t
 
 abbrev at-end : Reader → List ℤ → List ℕ → Bool → List Event
-at-end r f pre b = cond b (told-second (take (r .numbers) f)) told [] (pre ++ [])
+at-end r f pre b = cond b (events-second (take (r .numbers) f)) events-of [] (pre ++ [])
 
 -- ---- a byte more, with the rest of the input in hand
-module _ (xs : List ℕ) (more : Tells xs) (c : ℕ) (n : ℕ) (pre : List ℕ) where
+module _ (xs : List ℕ) (more : Agrees xs) (c : ℕ) (n : ℕ) (pre : List ℕ) where
   by-first : (f g : List ℤ) → most-numbers ≤ length f → most-numbers ≤ length g → (ab : After × List ℤ) →
       Then first-tag f pre c ab →
-      told-by (on-first n (ab .0) (ab .1) g) (λ r′ f′ g′. from r′ f′ g′ xs)
-      ≡ told (onto pre (led-by c (cut xs)) .lines) (onto pre (led-by c (cut xs)) .rest)
+      events-by (on-first n (ab .0) (ab .1) g) (λ r′ f′ g′. from r′ f′ g′ xs)
+      ≡ events-of (onto pre (led-by c (in-lines xs)) .lines) (onto pre (led-by c (in-lines xs)) .rest)
   by-first f g hf hg (after.On l, b) (no-feed, holds, same) =
-      rw (onto-other pre c (cut xs) no-feed)
+      rw (onto-other pre c (in-lines xs) no-feed)
       (more (record { second = false; numbers = n; line = l }) b g (pre ++ c ∷ []) (first refl holds) (omega arith) hg)
   by-first f g hf hg (after.Frame m, b) (feed, is, fits, same) =
-      rw (onto-feed pre c (cut xs) feed, first-then-second pre (cut xs .lines) (cut xs .rest) is)
-      (rw (onto-nothing (cut xs)) at
+      rw (onto-feed pre c (in-lines xs) feed, first-then-second pre (in-lines xs .lines) (in-lines xs .rest) is)
+      (rw (onto-nothing (in-lines xs)) at
       (more (record { second = true; numbers = m; line = nothing-read }) b g []
       (second refl fits (holds-nothing second-tag g)) (omega arith) hg))
-  by-first f g hf hg (after.Bad, b) d = doomed first-tag told told-none told-rest pre c (cut xs) d
+  by-first f g hf hg (after.Bad, b) d = doomed first-tag events-of events-none events-rest pre c (in-lines xs) d
 
   by-second : (f g : List ℤ) → most-numbers ≤ length f → most-numbers ≤ length g → n ≤ length f →
       (ab : After × List ℤ) → Then second-tag g pre c ab →
-      told-by (on-second n (ab .0) f (ab .1)) (λ r′ f′ g′. from r′ f′ g′ xs)
-      ≡ told-second (take n f) (onto pre (led-by c (cut xs)) .lines) (onto pre (led-by c (cut xs)) .rest)
+      events-by (on-second n (ab .0) f (ab .1)) (λ r′ f′ g′. from r′ f′ g′ xs)
+      ≡ events-second (take n f) (onto pre (led-by c (in-lines xs)) .lines) (onto pre (led-by c (in-lines xs)) .rest)
   by-second f g hf hg fits (after.On l, b) (no-feed, holds, same) =
-      rw (onto-other pre c (cut xs) no-feed)
+      rw (onto-other pre c (in-lines xs) no-feed)
       (more (record { second = true; numbers = n; line = l }) f b (pre ++ c ∷ [])
       (second refl fits holds) hf (omega arith))
   by-second f g hf hg fits (after.Frame m, b) (feed, is, within, same) =
-      rw (le-leb n (length f) fits, onto-feed pre c (cut xs) feed, is)
+      rw (le-leb n (length f) fits, onto-feed pre c (in-lines xs) feed, is)
       (ap (λ (es : List Event). pair (take n f) (take m b) ∷ es)
-      (rw (onto-nothing (cut xs)) at (more fresh f b [] (first refl (holds-nothing first-tag f)) hf (omega arith))))
+      (rw (onto-nothing (in-lines xs)) at
+      (more fresh f b [] (first refl (holds-nothing first-tag f)) hf (omega arith))))
   by-second f g hf hg fits (after.Bad, b) d =
-      doomed second-tag (told-second (take n f)) (λ l ls r e. rw e) (λ r h. refl) pre c (cut xs) d
+      doomed second-tag (events-second (take n f)) (λ l ls r e. rw e) (λ r h. refl) pre c (in-lines xs) d
 
-tells : (xs : List ℕ) → Tells xs
+agrees : (xs : List ℕ) → Agrees xs
 unfolding from steps
-tells [] r f g pre (first t holds) hf hg = end-first r f pre t holds ∙ sym (ap (at-end r f pre) t)
-tells [] r f g pre (second t fits holds) hf hg = end-second r t ∙ sym (ap (at-end r f pre) t)
-tells (c ∷ xs) r f g pre (first t holds) hf hg =
-    rw t (by-first xs (tells xs) c (r .numbers) pre f g hf hg (reads first-tag (r .line) f c)
+agrees [] r f g pre (first t holds) hf hg = end-first r f pre t holds ∙ sym (ap (at-end r f pre) t)
+agrees [] r f g pre (second t fits holds) hf hg = end-second r t ∙ sym (ap (at-end r f pre) t)
+agrees (c ∷ xs) r f g pre (first t holds) hf hg =
+    rw t (by-first xs (agrees xs) c (r .numbers) pre f g hf hg (reads first-tag (r .line) f c)
     (keeps first-tag (r .line) f pre c holds hf))
-tells (c ∷ xs) r f g pre (second t fits holds) hf hg =
+agrees (c ∷ xs) r f g pre (second t fits holds) hf hg =
     rw t
-    (by-second xs (tells xs) c (r .numbers) pre f g hf hg fits (reads second-tag (r .line) g c)
+    (by-second xs (agrees xs) c (r .numbers) pre f g hf hg fits (reads second-tag (r .line) g c)
     (keeps second-tag (r .line) g pre c holds hg))
 
 -- ---- 01 over the whole input, whatever the buffers held before
 pub from-start : (f g : List ℤ) (xs : List ℕ) → most-numbers ≤ length f → most-numbers ≤ length g →
     from fresh f g xs ≡ events xs
 from-start f g xs hf hg =
-    rw (onto-nothing (cut xs)) at (tells xs fresh f g [] (first refl (holds-nothing first-tag f)) hf hg)
+    rw (onto-nothing (in-lines xs)) at (agrees xs fresh f g [] (first refl (holds-nothing first-tag f)) hf hg)

@@ -40,7 +40,7 @@ pub record Read {A : Type 0} (nought : A) (value : ℕ → A) (good : ℕ → Bo
     (before now : List A) (p : ℕ) (all-good : Bool) (i : ℕ) : Type 0 where
   pub held : Held nought (λ k. value (place text at k)) before now i
   pub next : p ≡ place text at i
-  pub told : all-good ≡ all (λ k. good (place text at k)) i
+  pub all-good-is : all-good ≡ all (λ k. good (place text at k)) i
   pub within : i ≤ length before
 
 module _ {A : Type 0} (nought : A) (value : ℕ → A) (good : ℕ → Bool) (text : List ℕ) (at : ℕ) (before : List A) where
@@ -50,7 +50,7 @@ module _ {A : Type 0} (nought : A) (value : ℕ → A) (good : ℕ → Bool) (te
       record {
         held = held-none nought (λ k. value (place text at k)) before;
         next = refl;
-        told = refl;
+        all-good-is = refl;
         within = omega arith;
       }
 
@@ -63,7 +63,7 @@ module _ {A : Type 0} (nought : A) (value : ℕ → A) (good : ℕ → Bool) (te
         record {
           held = held-more nought (λ k. value (place text at k)) before now i x (l .held) h (e ∙ ap value (l .next));
           next = rw (add-one i) (n ∙ ap (after text) (l .next));
-          told = rw (add-one i) (g ∙ ap₂ _&&_ (l .told) (ap good (l .next)));
+          all-good-is = rw (add-one i) (g ∙ ap₂ _&&_ (l .all-good-is) (ap good (l .next)));
           within = omega arith;
         }
 
@@ -72,9 +72,9 @@ module _ {A : Type 0} (nought : A) (value : ℕ → A) (good : ℕ → Bool) (te
         × Holds nought (λ k. value (place text at k)) before now
     read-all h =
         let done : i ≡ length before = omega (arith, l .within) in
-        let told = l .told ∙ ap (all (λ k. good (place text at k))) done in
+        let all-good-is = l .all-good-is ∙ ap (all (λ k. good (place text at k))) done in
         let next = l .next ∙ ap (place text at) done in (
-          ap₂ (λ b p. record { good = b; next = p }) told next,
+          ap₂ (λ b p. record { good = b; next = p }) all-good-is next,
           held-all nought (λ k. value (place text at k)) before now i (l .held) h,
         )
 

@@ -42,13 +42,13 @@ decimal m (c ∷ w) = cond (leb 48 c && leb c 57) (decimal (m * 10 + (c - 48)) w
 abbrev pub no-number : ℕ
 no-number = 4294967296
 
-abbrev pub told : Option ℕ → ℕ
-told none = no-number
-told (some m) = min m no-number
+abbrev pub or-no-number : Option ℕ → ℕ
+or-no-number none = no-number
+or-no-number (some m) = min m no-number
 
 unfoldable pub natural : List ℕ → ℕ
 natural [] = no-number
-natural (c ∷ w) = told (decimal 0 (c ∷ w))
+natural (c ∷ w) = or-no-number (decimal 0 (c ∷ w))
 
 -- a number of 32 bits, with a minus where it is below zero
 abbrev pub above : ℕ → Option ℤ
@@ -77,12 +77,12 @@ as-byte m next = record { good = leb m 255; value = cond (leb m 255) m 0; next =
 unfoldable pub byte-at : List ℕ → ℕ → Byte
 byte-at text at = as-byte (natural (first-word text at)) (after text at)
 
-abbrev pub is-told : Option ℤ → Bool
-is-told none = false
-is-told (some z) = true
+abbrev pub is-number : Option ℤ → Bool
+is-number none = false
+is-number (some z) = true
 
 abbrev pub as-whole : Option ℤ → ℕ → Whole
-as-whole z next = record { good = is-told z; value = Option·getD z (pos 0); next = next }
+as-whole z next = record { good = is-number z; value = Option·getD z (pos 0); next = next }
 
 unfoldable pub whole-at : List ℕ → ℕ → Whole
 whole-at text at = as-whole (whole (first-word text at)) (after text at)

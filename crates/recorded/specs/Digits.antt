@@ -9,7 +9,7 @@ use native.Mathlib.Omega.{arith}
 use borrow.Author.Tests.{eq-eqb, ne-eqb}
 use lib.Dec.{eqb, leb}
 use lib.ListN.{length}
-use Rattle.recorded.specs.Decimals.{decimal, no-number, told, natural, word-at, word-end}
+use Rattle.recorded.specs.Decimals.{decimal, no-number, or-no-number, natural, word-at, word-end}
 use Rattle.recorded.specs.declared.decimals.Natural.{Natural}
 
 abbrev pub is-digit : ℕ → Bool
@@ -42,13 +42,13 @@ stuck (c ∷ w) = ap (λ m. number m w) (stuck-digit (is-digit c) (c - 48)) ∙ 
 
 -- ---- digits read one after another tell the decimal number
 same-digit : (b : Bool) (m d : ℕ) (w : List ℕ) →
-    ((k : ℕ) → number (min k no-number) w ≡ told (decimal k w)) →
+    ((k : ℕ) → number (min k no-number) w ≡ or-no-number (decimal k w)) →
     number (cond b (min (min m no-number * 10 + d) no-number) no-number) w
-    ≡ told (cond b (decimal (m * 10 + d) w) none)
+    ≡ or-no-number (cond b (decimal (m * 10 + d) w) none)
 same-digit true m d w rest = ap (λ k. number k w) (capped m d) ∙ rest (m * 10 + d)
 same-digit false m d w rest = stuck w
 
-same : (m : ℕ) (w : List ℕ) → number (min m no-number) w ≡ told (decimal m w)
+same : (m : ℕ) (w : List ℕ) → number (min m no-number) w ≡ or-no-number (decimal m w)
 same m [] = refl
 same m (c ∷ w) = same-digit (is-digit c) m (c - 48) w (λ k. same k w)
 

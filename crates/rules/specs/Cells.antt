@@ -38,8 +38,8 @@ Sees t x y = ¬ (cell t x y ≡ 0)
 abbrev pub InBoth : List ℕ → List ℕ → ℕ → ℕ → Type 0
 InBoth first second x y = Sees first x y × Sees second x y
 
-abbrev pub sight : List ℕ → List ℕ → ℕ → ℕ → Bool
-sight first second x y = filled first x y && filled second x y
+abbrev pub both-see : List ℕ → List ℕ → ℕ → ℕ → Bool
+both-see first second x y = filled first x y && filled second x y
 
 -- the set of pairs: those a, b of no neighbours, a < b < row, whose cell is not 0. No other cell matters: neither
 -- those of neighbours nor those below the diagonal.
@@ -54,8 +54,8 @@ filled-is t x y = go (eqb (cell t x y) 0) refl
     go true e = ((λ k. absurd k), λ f. absurd (f (eqb-true (cell t x y) 0 e)))
     go false e = ((λ k. eqb-false (cell t x y) 0 e), λ f. tt)
 
-pub sight-is : (first second : List ℕ) (x y : ℕ) → T (sight first second x y) ↔ InBoth first second x y
-sight-is first second x y =
+pub both-see-is : (first second : List ℕ) (x y : ℕ) → T (both-see first second x y) ↔ InBoth first second x y
+both-see-is first second x y =
     let p = filled-is first x y in
     let q = filled-is second x y in
     let f = filled first x y in

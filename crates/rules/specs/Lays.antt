@@ -70,8 +70,8 @@ module _ (p : ℕ → Bool) where
       go false e (inr k) f = f k
 
 -- what `sees` tells
-abbrev pub Seen : (ℕ → ℕ → Bool) → ℕ → ℕ → Type 0
-Seen sees x y = T (sees x y)
+abbrev pub Says : (ℕ → ℕ → Bool) → ℕ → ℕ → Type 0
+Says sees x y = T (sees x y)
 
 module _ (sees : ℕ → ℕ → Bool) where
   -- ---- has a piece a centre, and which is the lowest
@@ -81,16 +81,16 @@ module _ (sees : ℕ → ℕ → Bool) where
   abbrev pub centre : List ℕ → ℕ
   centre S = first (λ x. all (sees x) S) S
 
-  is-centre : (S : List ℕ) → T (hasCentre S) → Centre (Seen sees) (centre S) S
+  is-centre : (S : List ℕ) → T (hasCentre S) → Centre (Says sees) (centre S) S
   is-centre S h = let k = some-first (λ x. all (sees x) S) S h in (k .0, all-passes (sees (centre S)) S (k .1))
 
-  pub has-centre : (S : List ℕ) → T (hasCentre S) ↔ HasCentre (Seen sees) S
+  pub has-centre : (S : List ℕ) → T (hasCentre S) ↔ HasCentre (Says sees) S
   has-centre S = (
     λ h. (centre S, is-centre S h),
     λ c. passes-some (λ x. all (sees x) S) S (c .0) (c .1 .0) (passes-all (sees (c .0)) S (c .1 .1)),
   )
 
-  pub centre-lowest : (S : List ℕ) → Rising S → HasCentre (Seen sees) S → Lowest (Seen sees) (centre S) S
+  pub centre-lowest : (S : List ℕ) → Rising S → HasCentre (Says sees) S → Lowest (Says sees) (centre S) S
   centre-lowest S r h = record {
     centre = is-centre S (has-centre S .1 h);
     lowest = λ y c. first-lowest (λ x. all (sees x) S) S r y (c .0) (passes-all (sees y) S (c .1));
@@ -106,10 +106,10 @@ none-first p (x ∷ s) e = by (p x) e (none-first p s)
     by true k f = absurd (subst T k tt)
     by false k f = f k
 
-pub centre-shown : (sees : ℕ → ℕ → Bool) (S : List ℕ) → Rising S → LowestOrZero (Seen sees) (centre sees S) S
+pub centre-shown : (sees : ℕ → ℕ → Bool) (S : List ℕ) → Rising S → LowestOrZero (Says sees) (centre sees S) S
 centre-shown sees S r = go (hasCentre sees S) refl
   where
-    go : (b : Bool) → hasCentre sees S ≡ b → LowestOrZero (Seen sees) (centre sees S) S
+    go : (b : Bool) → hasCentre sees S ≡ b → LowestOrZero (Says sees) (centre sees S) S
     go true e = inl (centre-lowest sees S r (has-centre sees S .0 (subst T (sym e) tt)))
     go false e = inr ((λ h. subst T e (has-centre sees S .1 h)), none-first _ S e)
 
@@ -167,8 +167,8 @@ abbrev pub lays : (ℕ → ℕ → Bool) → List (List ℕ) → List ℕ
 lays sees = layAll (centre sees)
 
 pub lays-layout : (sees : ℕ → ℕ → Bool) (l : List (List ℕ)) → ((S : List ℕ) → In S l → Rising S) →
-    ((S : List ℕ) → In S l → HasCentre (Seen sees) S) → Layout (Lowest (Seen sees)) l (lays sees l)
-lays-layout sees l r h = lay-layout (centre sees) (Lowest (Seen sees)) l (λ S i. centre-lowest sees S (r S i) (h S i))
+    ((S : List ℕ) → In S l → HasCentre (Says sees) S) → Layout (Lowest (Says sees)) l (lays sees l)
+lays-layout sees l r h = lay-layout (centre sees) (Lowest (Says sees)) l (λ S i. centre-lowest sees S (r S i) (h S i))
 
 -- ---- tried: the outline E of 01, a dart whose corners 0 and 2 do not see each other
 dart : ℕ → ℕ → Bool

@@ -60,10 +60,10 @@ path-end next j (suc f) a le = rw (le-ltb a j le, path)
 
 -- ---- roads of seen corners: each step leads to a corner that is seen
 module _ (way : ℕ → ℕ → Type 0) (see : ℕ → Type 0) where
-  abbrev pub Seen : ℕ → ℕ → Type 0
-  Seen a b = way a b × see b
+  abbrev pub SeenStep : ℕ → ℕ → Type 0
+  SeenStep a b = way a b × see b
 
-  pub seen-road : (a j : ℕ) (s : List ℕ) → Road Seen a j s → Road way a j s × ((y : ℕ) → In y s → see y)
+  pub seen-road : (a j : ℕ) (s : List ℕ) → Road SeenStep a j s → Road way a j s × ((y : ℕ) → In y s → see y)
   seen-road a j [] r = (r, λ y i. absurd i)
   seen-road a j (b ∷ s) r = let q = seen-road b j s (r .2) in ((r .0, r .1 .0, q .0), all (q .1))
     where
@@ -71,13 +71,13 @@ module _ (way : ℕ → ℕ → Type 0) (see : ℕ → Type 0) where
       all f y (inl e) = rw e (r .1 .1)
       all f y (inr i) = f y i
 
-  pub road-seen : (a j : ℕ) (s : List ℕ) → Road way a j s → ((y : ℕ) → In y s → see y) → Road Seen a j s
+  pub road-seen : (a j : ℕ) (s : List ℕ) → Road way a j s → ((y : ℕ) → In y s → see y) → Road SeenStep a j s
   road-seen a j [] r f = r
   road-seen a j (b ∷ s) r f = (r .0, (r .1, f b (inl refl)), road-seen b j s (r .2) (λ y i. f y (inr i)))
 
   -- its first corner below top
   abbrev pub SeenRoad : ℕ → ℕ → ℕ → List ℕ → Type 0
-  SeenRoad a j top s = Road Seen a j s × Head top s
+  SeenRoad a j top s = Road SeenStep a j s × Head top s
 
 module _ (way : ℕ → ℕ → Type 0) (val : ℕ → ℕ → ℕ) (see : ℕ → Type 0) where
   -- p is the first of the cheapest roads of seen corners from a to j whose first corner is below top
@@ -92,7 +92,7 @@ module _ (way : ℕ → ℕ → Type 0) (val : ℕ → ℕ → ℕ) (see : ℕ �
     pub first : h → (b : ℕ) → a < b → b < b₀ → way a b → see b → has b → v < val a b + H b
 
   abbrev Next : ℕ → ℕ → ℕ → Type 0
-  Next a top b = (a < b) × (b < top) × Seen way see a b
+  Next a top b = (a < b) × (b < top) × SeenStep way see a b
 
   step-cheapest : {has : ℕ → Type 0} {H : ℕ → ℕ} {a top : ℕ} {h : Type 0} {v b₀ : ℕ} → Step has H a top h v b₀ →
       Cheapest (λ b. Next a top b × has b) (λ b. val a b + H b) (λ b. b ∷ []) h v b₀
@@ -121,7 +121,8 @@ module _ (way : ℕ → ℕ → Type 0) (val : ℕ → ℕ → ℕ) (see : ℕ �
       splits : (s : List ℕ) → SeenRoad way see a j top s →
           (b : ℕ) × (t : List ℕ) × Next a top b × SeenRoad way see b j (suc j) t × (s ≡ b ∷ t)
       splits [] p = absurd (omega (arith, p .0))
-      splits (b ∷ s) p = (b, s, (p .0 .0, p .1, p .0 .1), (p .0 .2, road-head (Seen way see) b j s (p .0 .2)), refl)
+      splits (b ∷ s) p =
+          (b, s, (p .0 .0, p .1, p .0 .1), (p .0 .2, road-head (SeenStep way see) b j s (p .0 .2)), refl)
 
   -- the step, and the best road from there
   pub step-road : {has : ℕ → Type 0} {H : ℕ → ℕ} {q : ℕ → List ℕ} {a j top : ℕ} {h : Type 0} {v b₀ : ℕ} →
@@ -139,9 +140,9 @@ module _ (way : ℕ → ℕ → Type 0) (val : ℕ → ℕ → ℕ) (see : ℕ �
     first = λ k s p le. only s (p .0);
   }
     where
-      only : (s : List ℕ) → Road (Seen way see) j j s → Upto [] s [] s
+      only : (s : List ℕ) → Road (SeenStep way see) j j s → Upto [] s [] s
       only [] r = inl refl
-      only (b ∷ s) r = absurd (omega (arith, r .0, rise-le b j s (road-rise (Seen way see) b j s (r .2))))
+      only (b ∷ s) r = absurd (omega (arith, r .0, rise-le b j s (road-rise (SeenStep way see) b j s (r .2))))
 
   -- ---- the table for one end j that is seen: a step at each seen corner from lo on
   pub record Tails (lo j : ℕ) (has : ℕ → Type 0) (H next : ℕ → ℕ) : Type 0 where
@@ -170,25 +171,25 @@ module _ (way : ℕ → ℕ → Type 0) (val : ℕ → ℕ → ℕ) (see : ℕ �
   through-steps : (a x j : ℕ) → a < x →
       Steps (SeenRoad way see a x (suc x)) (sum val a) (λ s. s) (λ s. SeenRoad way see x j (suc j))
       (λ s. sum val x) (λ s t. t)
-      _++_ (λ s. Road (Seen way see) a j s × In x s) (sum val a) (λ s. s) []
+      _++_ (λ s. Road (SeenStep way see) a j s × In x s) (sum val a) (λ s. s) []
   through-steps a x j lt = record {
     splits = λ s p.
-        let q = road-split (Seen way see) a x j s (p .0) (p .1) in (
+        let q = road-split (SeenStep way see) a x j s (p .0) (p .1) in (
           q .0,
           q .1,
-          (q .2, road-head (Seen way see) a x (q .0) (q .2)),
-          (q .3, road-head (Seen way see) x j (q .1) (q .3)),
+          (q .2, road-head (SeenStep way see) a x (q .0) (q .2)),
+          (q .3, road-head (SeenStep way see) x j (q .1) (q .3)),
           q .4,
         );
     joins = λ s t p q. (
-      road-join (Seen way see) a x j s t (p .0) (q .0),
-      in-left x s t (road-reaches (Seen way see) a x s lt (p .0)),
+      road-join (SeenStep way see) a x j s t (p .0) (q .0),
+      in-left x s t (road-reaches (SeenStep way see) a x s lt (p .0)),
     );
-    costs = λ s t p q. sum-join (Seen way see) val a x s t (p .0);
+    costs = λ s t p q. sum-join (SeenStep way see) val a x s t (p .0);
     runs = λ s t p q. refl;
   }
 
   pub through : {a x j : ℕ} {h₁ h₂ : Type 0} {v₁ v₂ : ℕ} {p₁ p₂ : List ℕ} → a < x →
       BestRoad a x (suc x) h₁ v₁ p₁ → BestRoad x j (suc j) h₂ v₂ p₂ →
-      Cheapest (λ s. Road (Seen way see) a j s × In x s) (sum val a) (λ s. s) (h₁ × h₂) (v₁ + v₂) (p₁ ++ p₂)
+      Cheapest (λ s. Road (SeenStep way see) a j s × In x s) (sum val a) (λ s. s) (h₁ × h₂) (v₁ + v₂) (p₁ ++ p₂)
   through {a} {x} {j} lt F G = in-parts (through-steps a x j lt) F G

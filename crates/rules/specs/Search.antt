@@ -15,7 +15,7 @@ use Rattle.rules.specs.Order.{Upto}
 use Rattle.rules.specs.Centre.{Centre, HasCentre}
 use Rattle.rules.specs.Cheapest.{Cheapest, cheapest-when, cheapest-map, upto-trans}
 use Rattle.rules.specs.Table.{Road, road-rise, Head, sum, Way, Piece, Closes, Table}
-use Rattle.rules.specs.Roads.{Seen, seen-road, road-seen, road-reaches, BestRoad, through}
+use Rattle.rules.specs.Roads.{SeenStep, seen-road, road-seen, road-reaches, BestRoad, through}
 
 -- ---- the pieces with one centre
 module _ (cut may : ℕ → ℕ → Type 0) (val : ℕ → ℕ → ℕ) (sees : ℕ → ℕ → Type 0) where
@@ -25,7 +25,7 @@ module _ (cut may : ℕ → ℕ → Type 0) (val : ℕ → ℕ → ℕ) (sees : 
 
   -- such a piece is a road of corners that x sees, from a corner that x sees, with x among them
   abbrev Looks : ℕ → ℕ → ℕ → List ℕ → Type 0
-  Looks x = Road (Seen (Way cut may) (sees x))
+  Looks x = Road (SeenStep (Way cut may) (sees x))
 
   piece-road : (x i j : ℕ) (s : List ℕ) → Piece cut may (Centre sees x) i j s → Looks x i j s
   piece-road x i j s p = road-seen (Way cut may) (sees x) i j s (p .1) (λ y k. p .0 .1 .1 y (inr k))
@@ -49,7 +49,7 @@ module _ (cut may : ℕ → ℕ → Type 0) (val : ℕ → ℕ → ℕ) (sees : 
     where
       on : (x ≡ i) ⊎ (x ≡ j) → (s : List ℕ) → Looks x i j s → In x (i ∷ s)
       on (inl q) s r = inl q
-      on (inr q) s r = inr (rw q (road-reaches (Seen (Way cut may) (sees x)) i j s lt r))
+      on (inr q) s r = inr (rw q (road-reaches (SeenStep (Way cut may) (sees x)) i j s lt r))
 
   -- the centre lies between the ends
   pub centre-between : {x i j : ℕ} {h₁ h₂ : Type 0} {v₁ v₂ : ℕ} {p₁ p₂ : List ℕ} → i < x → x < j →
@@ -69,7 +69,8 @@ module _ (cut may : ℕ → ℕ → Type 0) (val : ℕ → ℕ → ℕ) (sees : 
       head : (s : List ℕ) → Looks x i j s → In x s → Head j s
       head [] r k = tt
       head (b ∷ s) r (inl e) = omega arith
-      head (b ∷ s) r (inr k) = omega (arith, rise-in b j s (road-rise (Seen (Way cut may) (sees x)) b j s (r .2)) x k)
+      head (b ∷ s) r (inr k) =
+          omega (arith, rise-in b j s (road-rise (SeenStep (Way cut may) (sees x)) b j s (r .2)) x k)
 
 -- ---- the best over the centres makes the table
 module _ (cut : ℕ → ℕ → Type 0) (w : ℕ → ℕ → ℕ) (may : ℕ → ℕ → Type 0) (val : ℕ → ℕ → ℕ) (choice : ℕ → ℕ → List ℕ)

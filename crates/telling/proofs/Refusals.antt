@@ -10,18 +10,19 @@ use Rattle.rules.specs.Cutting.{pieces}
 use Rattle.rules.specs.Centre.{LowestOrZero}
 use Rattle.rules.specs.Cells.{marked, InBoth}
 use Rattle.rules.specs.Result.{Carries}
-use Rattle.telling.specs.Answer.{result, Served, Tells}
+use Rattle.telling.specs.Answer.{result, Served, Telling}
 use Rattle.telling.specs.declared.Told.the-variants.{Unserved, Short, Pieces}
 
 module _ {n : ℕ} {pairs first second out : List ℕ} where
-  pub unserved : ¬ Served n pairs first second → Tells n pairs first second out (result Unserved out)
+  pub unserved : ¬ Served n pairs first second → Telling n pairs first second out (result Unserved out)
   unserved fails = record {
     numbered = inl (fails, refl);
     refused = λ l. record { no-pieces = refl; no-bytes = refl; kept = refl };
     given = λ e. absurd (omega (arith, e));
   }
 
-  pub short : Served n pairs first second → ¬ Roomy n (length out) → Tells n pairs first second out (result Short out)
+  pub short : Served n pairs first second → ¬ Roomy n (length out) →
+      Telling n pairs first second out (result Short out)
   short s fails = record {
     numbered = inr (s, inl (fails, refl));
     refused = λ l. record { no-pieces = refl; no-bytes = refl; kept = refl };
@@ -30,5 +31,5 @@ module _ {n : ℕ} {pairs first second out : List ℕ} where
 
   pub given : {after : List ℕ} {count bytes : ℕ} → Served n pairs first second → Roomy n (length out) →
       Carries (LowestOrZero (InBoth first second)) (pieces n (marked pairs)) out (result (Pieces count bytes) after) →
-      Tells n pairs first second out (result (Pieces count bytes) after)
+      Telling n pairs first second out (result (Pieces count bytes) after)
   given s r g = record { numbered = inr (s, inr (r, refl)); refused = λ l. absurd (omega (arith, l)); given = λ e. g }

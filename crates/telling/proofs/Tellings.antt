@@ -9,11 +9,11 @@ use lib.Seq.{sets-eq}
 use Rattle.limits.specs.Limits.{row, Roomy}
 use Rattle.rules.specs.Lists.{In}
 use Rattle.rules.specs.Cutting.{Pairs, corners, below, told, pieces}
-use Rattle.rules.specs.Cells.{filled, marked, sight, InBoth, marked-wide, marked-is, sight-is}
+use Rattle.rules.specs.Cells.{filled, marked, both-see, InBoth, marked-wide, marked-is, both-see-is}
 use Rattle.rules.specs.Centre.{LowestOrZero}
 use Rattle.rules.specs.Walk.{Wide, After, walk, line, Step, below-end, line-end, below-more, line-more, pieces-line}
 use Rattle.rules.specs.AnyPairs.{any-shaped, any-size, any-room}
-use Rattle.rules.specs.Lays.{Seen, centre, lowest-or-zero-map, centre-shown, lay}
+use Rattle.rules.specs.Lays.{Says, centre, lowest-or-zero-map, centre-shown, lay}
 use Rattle.rules.specs.Lays.{layAll, blank, lay-layout, lay-append, lay-size}
 use Rattle.rules.specs.Agree.{layout-map}
 use Rattle.rules.specs.Result.{Carries}
@@ -90,7 +90,7 @@ module _ {n : ℕ} {pairs first second : List ℕ} (s : Served n pairs first sec
         Carries (LowestOrZero (InBoth first second)) (pieces n (marked pairs)) out (result (case.Pieces count r) last)
     whole-given f four =
         let l = pieces n (marked pairs) in
-        let c = centre (sight first second) in
+        let c = centre (both-see first second) in
         let h = f blank l (drop r out) whole-holds in
         let p = w .past in
         let z = whole-size in
@@ -98,9 +98,10 @@ module _ {n : ℕ} {pairs first second : List ℕ} (s : Served n pairs first sec
         record {
           laid = layAll c l;
           layout =
-              layout-map l (λ S i x. lowest-or-zero-map (sight-is first second) x S) (layAll c l)
-              (lay-layout c (LowestOrZero (Seen (sight first second))) l
-              (λ S i. centre-shown (sight first second) S (any-shaped (pairs-wide pairs) n (s .enough) S i .rising)));
+              layout-map l (λ S i x. lowest-or-zero-map (both-see-is first second) x S) (layAll c l)
+              (lay-layout c (LowestOrZero (Says (both-see first second))) l
+              (λ S i. centre-shown (both-see first second) S
+              (any-shaped (pairs-wide pairs) n (s .enough) S i .rising)));
           counted = omega arith;
           used = e;
           written = h .is ∙ ap (λ (q : ℕ). layAll c l ++ drop q out) e;

@@ -38,7 +38,7 @@ abbrev pub asked : ℕ → List ℕ → List ℕ → List ℕ → ℕ → List L
 asked n pairs first second room = line 1 (Served n pairs first second) ∷ line 2 (Roomy n room) ∷ []
 
 -- ---- the promise: a refusal by these lines, or the pieces told; a piece without a centre has 0 in its place
-pub record Tells (n : ℕ) (pairs first second before : List ℕ) (r : Result) : Type 0 where
+pub record Telling (n : ℕ) (pairs first second before : List ℕ) (r : Result) : Type 0 where
   pub numbered : FirstFailed (asked n pairs first second (length before)) (r .number)
   pub refused : 0 < r .number → Refused before r
   pub given : r .number ≡ 0 → Carries (LowestOrZero (InBoth first second)) (pieces n (marked pairs)) before r

@@ -16,13 +16,13 @@ use Rattle.rules.specs.Result.{Result, Carries, Given}
 use Rattle.rules.specs.Agree.{layout-map}
 use Rattle.rules.specs.Lays.{lowest-or-zero-lowest}
 use Rattle.rules.specs.Cells.{marked, InBoth}
-use Rattle.telling.specs.Answer.{Served, asked, Tells}
+use Rattle.telling.specs.Answer.{Served, asked, Telling}
 
 -- ---- what is served and has room is told
-pub told : {n : ℕ} {pairs first second before : List ℕ} {r : Result} → Served n pairs first second →
-    Roomy n (length before) → Tells n pairs first second before r →
+pub served-told : {n : ℕ} {pairs first second before : List ℕ} {r : Result} → Served n pairs first second →
+    Roomy n (length before) → Telling n pairs first second before r →
     (r .number ≡ 0) × Carries (LowestOrZero (InBoth first second)) (pieces n (marked pairs)) before r
-told {n} {pairs} {first} {second} {before} {r} s roomy t =
+served-told {n} {pairs} {first} {second} {before} {r} s roomy t =
     let e = no-line (t .numbered) in
     (e, t .given e)
   where

@@ -9,7 +9,7 @@ use Rattle.rules.specs.Lists.{In}
 use Rattle.rules.specs.Cutting.{corners, below, told}
 use Rattle.rules.specs.Centre.{size}
 use Rattle.rules.specs.Lays.{centre}
-use Rattle.rules.specs.Cells.{marked, sight}
+use Rattle.rules.specs.Cells.{marked, both-see}
 use Rattle.rules.specs.Walk.{walk, line}
 use Rattle.rules.specs.Lays.{lay, layAll, blank}
 
@@ -73,4 +73,4 @@ pub record Pieces (used : ℕ) (out : List ℕ) : Type 0 where
 -- the pieces are kept, and what follows them, and each has its lowest centre (0 where it has none)
 abbrev pub Centred : List ℕ → List ℕ → ℕ → List ℕ → List ℕ → Type 0
 Centred first second used before after = (o : List ℕ → ℕ) (l : List (List ℕ)) (rest : List ℕ) →
-    Holds o l used rest before → Holds (centre (sight first second)) l used rest after
+    Holds o l used rest before → Holds (centre (both-see first second)) l used rest after

@@ -10,13 +10,14 @@ use Rattle.rules.specs.Centre.{LowestOrZero, lowest-or-zero-one}
 use Rattle.rules.specs.Cells.{marked, InBoth}
 use Rattle.rules.specs.Refusals.{failed-unique}
 use Rattle.rules.specs.Result.{Result, refused-unique, carries-unique}
-use Rattle.telling.specs.Answer.{result, asked, Tells}
+use Rattle.telling.specs.Answer.{result, asked, Telling}
 use Rattle.telling.specs.declared.Told.{Told}
 use Rattle.telling.specs.declared.Told.the-variants.{Unserved, Short, Pieces}
 
 module _ (n : ℕ) (pairs first second before : List ℕ) where
-  pub tells-unique : (r s : Result) → Tells n pairs first second before r → Tells n pairs first second before s → r ≡ s
-  tells-unique r s a b = go (decLt 0 (r .number))
+  pub telling-unique : (r s : Result) → Telling n pairs first second before r →
+      Telling n pairs first second before s → r ≡ s
+  telling-unique r s a b = go (decLt 0 (r .number))
     where
       e : r .number ≡ s .number
       e = failed-unique (asked n pairs first second (length before)) (r .number) (s .number)
@@ -30,10 +31,10 @@ module _ (n : ℕ) (pairs first second before : List ℕ) where
           (a .given (omega arith)) (b .given (omega (arith, e)))
 
   -- so two calls return the same and leave the same buffer: a case has its own number
-  pub tell-unique : (o o′ : Told) (after after′ : List ℕ) → Tells n pairs first second before (result o after) →
-      Tells n pairs first second before (result o′ after′) → (o ≡ o′) × (after ≡ after′)
+  pub tell-unique : (o o′ : Told) (after after′ : List ℕ) → Telling n pairs first second before (result o after) →
+      Telling n pairs first second before (result o′ after′) → (o ≡ o′) × (after ≡ after′)
   tell-unique o o′ after after′ t t′ =
-      let e = tells-unique (result o after) (result o′ after′) t t′ in
+      let e = telling-unique (result o after) (result o′ after′) t t′ in
       (case o o′ e, back o o′ e)
     where
       back : (o o′ : Told) → result o after ≡ result o′ after′ → after ≡ after′

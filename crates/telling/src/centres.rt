@@ -8,7 +8,7 @@ ghost use mathlib.Core.Path.{_≡_};
 ghost use Prim.Native.Nat.{_<_, _≤_};
 ghost use lib.ListN.{length};
 ghost use Rattle.limits.specs.Limits.{row, all-cells};
-ghost use Rattle.rules.specs.Cells.{sight};
+ghost use Rattle.rules.specs.Cells.{both-see};
 ghost use Rattle.rules.specs.Lays.{all, centre};
 ghost use Rattle.telling.specs.Parts.{Small, Pieces, Centred};
 
@@ -16,7 +16,7 @@ ghost use Rattle.telling.specs.Parts.{Small, Pieces, Centred};
 fn sees_all(first: &[u8], second: &[u8], piece: &[u8], x: usize) -> bool
     requires { ⌜ (all-cells ≤ length (now first)) × (all-cells ≤ length (now second)) ⌝ }
     requires { ⌜ Small (now piece) × (x < row) ⌝ }
-    ensures { λ r. ⌜ r ≡ all (sight (now (first .entry)) (now (second .entry)) x) (now (piece .entry)) ⌝ }
+    ensures { λ r. ⌜ r ≡ all (both-see (now (first .entry)) (now (second .entry)) x) (now (piece .entry)) ⌝ }
 {
     let mut p = 0;
     while p < piece.len() {
@@ -35,7 +35,7 @@ fn sees_all(first: &[u8], second: &[u8], piece: &[u8], x: usize) -> bool
 // What stands in the centre's place: the lowest corner that sees every corner of the piece, 0 where there is none.
 fn lowest(first: &[u8], second: &[u8], piece: &[u8]) -> u8
     requires { ⌜ (all-cells ≤ length (now first)) × (all-cells ≤ length (now second)) × Small (now piece) ⌝ }
-    ensures { λ r. ⌜ r ≡ centre (sight (now (first .entry)) (now (second .entry))) (now (piece .entry)) ⌝ }
+    ensures { λ r. ⌜ r ≡ centre (both-see (now (first .entry)) (now (second .entry))) (now (piece .entry)) ⌝ }
 {
     let mut p = 0;
     while p < piece.len() {

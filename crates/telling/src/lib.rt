@@ -12,7 +12,7 @@ use limits::ALL_CELLS;
 use limits::FEWEST_CORNERS;
 use limits::MOST_CORNERS;
 use ranges::write_range;
-ghost use Rattle.telling.specs.Answer.{result, Tells};
+ghost use Rattle.telling.specs.Answer.{result, Telling};
 
 // What came of it: n or an array is out of the limits, the room is too small, or the pieces are told, with their count
 // and the count of bytes used. `result` has 01's number for each case.
@@ -28,7 +28,7 @@ pub enum Told {
 // What is refused leaves `out` alone.
 pub fn tell(n: usize, pairs: &[u8], first: &[u8], second: &[u8], out: &mut [u8]) -> Told
     ensures { λ r. ⌜
-        Tells n (now (pairs .entry)) (now (first .entry)) (now (second .entry))
+        Telling n (now (pairs .entry)) (now (first .entry)) (now (second .entry))
         (now (out .entry)) (result r (now (out .exit))) ⌝ }
 {
     if n < FEWEST_CORNERS {

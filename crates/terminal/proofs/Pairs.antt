@@ -15,7 +15,7 @@ use Rattle.frames.specs.declared.Fed.{Fed}
 use Rattle.frames.specs.declared.Fed.the-variants as fed
 use Rattle.limits.specs.Limits.{longest-line}
 use Rattle.terminal.specs.Longest.{pair-short}
-use Rattle.terminal.specs.Going.{Gone, telling, reads, reads-more, reads-pair, reads-fault}
+use Rattle.terminal.specs.Going.{Gone, with-events, reads, reads-more, reads-pair, reads-fault}
 use Rattle.terminal.specs.Running.{Wrote, Lent, Done}
 use Rattle.terminal.specs.Laying.{Space, Laid}
 use Rattle.terminal.specs.declared.Session.{Session}
@@ -41,21 +41,22 @@ runs-over {out} e lent =
 -- written is paid for: by the bytes read, but for one line, whose pair the reader may have held at the start.
 pub record So (r₀ : Reader) (f₀ g₀ : List ℤ) (chunk out₀ : List ℕ) (f g : List ℤ) (out : List ℕ) (r : Reader)
     (at len : ℕ) : Type 0 where
-  pub told : List Event
-  pub wrote : Wrote told out₀ out len
-  pub going : reads r₀ f₀ g₀ chunk ≡ telling told (reads r f g (drop at chunk))
+  pub reported : List Event
+  pub wrote : Wrote reported out₀ out len
+  pub going : reads r₀ f₀ g₀ chunk ≡ with-events reported (reads r f g (drop at chunk))
   pub within : at ≤ length chunk
   pub spent : len ≤ at + longest-line
   pub own : (len ≡ 0) ⊎ (taken r ≡ 0)
   pub same : length out ≡ length out₀
 
-telling-more : (es : List Event) (e : Event) (g : Gone) → telling es (telling (e ∷ []) g) ≡ telling (es ++ e ∷ []) g
-telling-more es e g = rw (append-assoc es (e ∷ []) (g .events))
+with-events-more : (es : List Event) (e : Event) (g : Gone) →
+    with-events es (with-events (e ∷ []) g) ≡ with-events (es ++ e ∷ []) g
+with-events-more es e g = rw (append-assoc es (e ∷ []) (g .events))
 
 module _ {r₀ : Reader} {f₀ g₀ : List ℤ} {chunk out₀ : List ℕ} where
   pub so-begin : So r₀ f₀ g₀ chunk out₀ f₀ g₀ out₀ r₀ 0 0
   so-begin = record {
-    told = [];
+    reported = [];
     wrote = wrote-none out₀;
     going = refl;
     within = omega arith;
@@ -72,8 +73,8 @@ module _ {r₀ : Reader} {f₀ g₀ : List ℤ} {chunk out₀ : List ℕ} where
         Done (session.Reading r₀) f₀ g₀ chunk out₀ f′ g′ out (session.Reading r′) len
     so-more {r′} e =
         let w : reads r₀ f₀ g₀ chunk
-        ≡ record { events = so .told; session = session.Reading r′; first = f′; second = g′ } =
-        so .going ∙ ap (telling (so .told)) (reads-more r f g chunk at q e) ∙ rw (append-nil (so .told)) in
+        ≡ record { events = so .reported; session = session.Reading r′; first = f′; second = g′ } =
+        so .going ∙ ap (with-events (so .reported)) (reads-more r f g chunk at q e) ∙ rw (append-nil (so .reported)) in
         record {
           lent = lent;
           session-is = rw w;
@@ -103,11 +104,11 @@ module _ {r₀ : Reader} {f₀ g₀ : List ℤ} {chunk out₀ : List ℕ} where
           let k = length-take n f′ in
           let s = pair-short (take n f′) (take m g′) (l .line) (l .is) in
           record {
-            told = so .told ++ pair (take n f′) (take m g′) ∷ [];
-            wrote = wrote-more (so .told) (pair (take n f′) (take m g′)) out₀ out out′ len len′ (so .wrote) l;
+            reported = so .reported ++ pair (take n f′) (take m g′) ∷ [];
+            wrote = wrote-more (so .reported) (pair (take n f′) (take m g′)) out₀ out out′ len len′ (so .wrote) l;
             going =
-                so .going ∙ ap (telling (so .told)) (reads-pair r f g chunk at q e)
-                ∙ telling-more (so .told) (pair (take n f′) (take m g′)) (reads fresh f′ g′ (drop next chunk));
+                so .going ∙ ap (with-events (so .reported)) (reads-pair r f g chunk at q e)
+                ∙ with-events-more (so .reported) (pair (take n f′) (take m g′)) (reads fresh f′ g′ (drop next chunk));
             within = t .within;
             spent = ⊎-elim (λ z. omega (arith, z, l .next, s .at-most))
                 (λ z. omega (arith, z, k, l .next, s .own, t .took, t .first-fits, so .spent)) (so .own);
@@ -121,13 +122,13 @@ module _ {r₀ : Reader} {f₀ g₀ : List ℤ} {chunk out₀ : List ℕ} where
     so-fault {out′} {len′} e h =
         let l = laid-fault out out′ len len′ (omega (arith, so .spent, so .within, so .same, lent .out-fits)) h in
         let w : reads r₀ f₀ g₀ chunk
-        ≡ record { events = so .told ++ fault ∷ []; session = session.Over; first = f′; second = g′ } =
-        so .going ∙ ap (telling (so .told)) (reads-fault r f g chunk at q e) in
+        ≡ record { events = so .reported ++ fault ∷ []; session = session.Over; first = f′; second = g′ } =
+        so .going ∙ ap (with-events (so .reported)) (reads-fault r f g chunk at q e) in
         record {
           lent = lent;
           session-is = rw w;
           first-is = rw w;
           second-is = rw w;
-          wrote = rw w (wrote-more (so .told) fault out₀ out out′ len len′ (so .wrote) l);
+          wrote = rw w (wrote-more (so .reported) fault out₀ out out′ len len′ (so .wrote) l);
           most = omega (arith, so .spent, so .within, l .next, ap length (l .is));
         }

@@ -8,7 +8,7 @@ use lib.IntN.{ℤ}
 use lib.ListN.{take, drop}
 use lib.Seq.{drop-drop}
 use Rattle.frames.specs.Frames.{Event, pair, fault}
-use Rattle.frames.specs.Reader.{fresh, steps, fed-by, feeds, told-by, from, ends-in-fault}
+use Rattle.frames.specs.Reader.{fresh, steps, fed-by, feeds, events-by, from, ends-in-fault}
 use Rattle.frames.specs.declared.Reader.{Reader}
 use Rattle.frames.specs.declared.Fed.{Fed}
 use Rattle.frames.specs.declared.Fed.the-variants as fed
@@ -24,13 +24,13 @@ pub record Gone : Type 0 where
   pub first : List ℤ
   pub second : List ℤ
 
-abbrev pub telling : List Event → Gone → Gone
-telling es g = record { events = es ++ g .events; session = g .session; first = g .first; second = g .second }
+abbrev pub with-events : List Event → Gone → Gone
+with-events es g = record { events = es ++ g .events; session = g .session; first = g .first; second = g .second }
 
 -- ---- from a reader on, byte for byte
 abbrev pub gone-by : Step × List ℤ × List ℤ → (Reader → List ℤ → List ℤ → Gone) → Gone
 gone-by (step.On r, f, g) more = more r f g
-gone-by (step.Pair n m, f, g) more = telling (pair (take n f) (take m g) ∷ []) (more fresh f g)
+gone-by (step.Pair n m, f, g) more = with-events (pair (take n f) (take m g) ∷ []) (more fresh f g)
 gone-by (step.Fault, f, g) more = record { events = fault ∷ []; session = session.Over; first = f; second = g }
 
 unfoldable pub reads : Reader → List ℤ → List ℤ → List ℕ → Gone
@@ -48,47 +48,47 @@ at-end (session.Reading r) = cond (ends-in-fault r) (fault ∷ []) []
 at-end session.Over = []
 
 -- ---- what the whole rest of an input tells
-abbrev pub tells : Session → List ℤ → List ℤ → List ℕ → List Event
-tells (session.Reading r) f g input = from r f g input
-tells session.Over f g input = []
+abbrev pub events-from : Session → List ℤ → List ℤ → List ℕ → List Event
+events-from (session.Reading r) f g input = from r f g input
+events-from session.Over f g input = []
 
 -- and what it tells after a chunk
-abbrev pub tells-after : Gone → List ℕ → List Event
-tells-after g more = tells (g .session) (g .first) (g .second) more
+abbrev pub events-after : Gone → List ℕ → List Event
+events-after g more = events-from (g .session) (g .first) (g .second) more
 
 -- a chunk tells its own events, and the rest of the input goes on from there
 module _ (more : List ℕ) where
   abbrev onward : Gone → List Event
-  onward g = g .events ++ tells-after g more
+  onward g = g .events ++ events-after g more
 
-  step-tells : (cs : List ℕ) → ((r : Reader) (f g : List ℤ) → from r f g (cs ++ more) ≡ onward (reads r f g cs)) →
+  step-events : (cs : List ℕ) → ((r : Reader) (f g : List ℤ) → from r f g (cs ++ more) ≡ onward (reads r f g cs)) →
       (s : Step × List ℤ × List ℤ) →
-      told-by s (λ r f g. from r f g (cs ++ more)) ≡ onward (gone-by s (λ r f g. reads r f g cs))
-  step-tells cs again (step.On r, f, g) = again r f g
-  step-tells cs again (step.Pair n m, f, g) =
+      events-by s (λ r f g. from r f g (cs ++ more)) ≡ onward (gone-by s (λ r f g. reads r f g cs))
+  step-events cs again (step.On r, f, g) = again r f g
+  step-events cs again (step.Pair n m, f, g) =
       ap (λ (es : List Event). pair (take n f) (take m g) ∷ es) (again fresh f g)
-  step-tells cs again (step.Fault, f, g) = refl
+  step-events cs again (step.Fault, f, g) = refl
 
-  reads-tells : (chunk : List ℕ) (r : Reader) (f g : List ℤ) → from r f g (chunk ++ more) ≡ onward (reads r f g chunk)
+  reads-events : (chunk : List ℕ) (r : Reader) (f g : List ℤ) → from r f g (chunk ++ more) ≡ onward (reads r f g chunk)
   unfolding from reads
-  reads-tells [] r f g = refl
-  reads-tells (c ∷ cs) r f g = step-tells cs (reads-tells cs) (steps r f g c)
+  reads-events [] r f g = refl
+  reads-events (c ∷ cs) r f g = step-events cs (reads-events cs) (steps r f g c)
 
-  pub chunk-tells : (s : Session) (f g : List ℤ) (chunk : List ℕ) →
-      tells s f g (chunk ++ more) ≡ goes s f g chunk .events ++ tells-after (goes s f g chunk) more
-  chunk-tells (session.Reading r) f g chunk = reads-tells chunk r f g
-  chunk-tells session.Over f g chunk = refl
+  pub chunk-events : (s : Session) (f g : List ℤ) (chunk : List ℕ) →
+      events-from s f g (chunk ++ more) ≡ goes s f g chunk .events ++ events-after (goes s f g chunk) more
+  chunk-events (session.Reading r) f g chunk = reads-events chunk r f g
+  chunk-events session.Over f g chunk = refl
 
-pub end-tells : (s : Session) (f g : List ℤ) → tells s f g [] ≡ at-end s
+pub end-events : (s : Session) (f g : List ℤ) → events-from s f g [] ≡ at-end s
 unfolding from
-end-tells (session.Reading r) f g = refl
-end-tells session.Over f g = refl
+end-events (session.Reading r) f g = refl
+end-events session.Over f g = refl
 
 -- ---- what `feed` reports of a chunk from byte i on, as a part of what the chunk does
 abbrev reported : Fed × List ℤ × List ℤ → List ℕ → Gone
 reported (fed.More r, f, g) chunk = record { events = []; session = session.Reading r; first = f; second = g }
 reported (fed.Pair n m next, f, g) chunk =
-    telling (pair (take n f) (take m g) ∷ []) (reads fresh f g (drop next chunk))
+    with-events (pair (take n f) (take m g) ∷ []) (reads fresh f g (drop next chunk))
 reported (fed.Fault, f, g) chunk = record { events = fault ∷ []; session = session.Over; first = f; second = g }
 
 module _ (chunk : List ℕ) where
@@ -115,7 +115,8 @@ module _ (r : Reader) (f g : List ℤ) (chunk : List ℕ) (i : ℕ) {x : Fed} {f
   reads-more e = rw (feed-reads chunk (drop i chunk) r f g i refl, ← q, e)
 
   pub reads-pair : {n m next : ℕ} → x ≡ fed.Pair n m next →
-      reads r f g (drop i chunk) ≡ telling (pair (take n f′) (take m g′) ∷ []) (reads fresh f′ g′ (drop next chunk))
+      reads r f g (drop i chunk) ≡ with-events (pair (take n f′) (take m g′) ∷ [])
+      (reads fresh f′ g′ (drop next chunk))
   reads-pair e = rw (feed-reads chunk (drop i chunk) r f g i refl, ← q, e)
 
   pub reads-fault : x ≡ fed.Fault →

@@ -8,7 +8,7 @@ use Rattle.frames.specs.Frames.{Event}
 use Rattle.frames.specs.Reader.{from, ends-in-fault}
 use Rattle.frames.specs.Whole.{from-start}
 use Rattle.terminal.specs.Terminal.{Lines, Output}
-use Rattle.terminal.specs.Going.{goes, tells, tells-after, chunk-tells, end-tells}
+use Rattle.terminal.specs.Going.{goes, events-from, events-after, chunk-events, end-events}
 use Rattle.terminal.specs.Running.{opened, Runs, Finishes}
 use Rattle.terminal.specs.declared.Session.{Session}
 use Rattle.terminal.specs.declared.Ran.the-variants as ran
@@ -48,14 +48,14 @@ lines-append (e ∷ es) fs x y h k =
 -- ---- the rest of the output, from any point of a run on
 from-here : (chunks : List (List ℕ)) (s s′ : Session) (f g : List ℤ) (x y : List ℕ) →
     Through s f g chunks s′ x → Finished s′ y →
-    Lines (tells s f g (flatten chunks)) (x ++ y)
+    Lines (events-from s f g (flatten chunks)) (x ++ y)
 unfolding flatten
 from-here [] s s′ f g x y (same, nothing) end =
-    rw (nothing, same, end-tells s′ f g, end .is) (end .finishes .wrote .lines)
+    rw (nothing, same, end-events s′ f g, end .is) (end .finishes .wrote .lines)
 from-here (chunk ∷ more) s s′ f g x y (t, f′, g′, front, back, call, rest, is) end =
     let d = call .runs in
-    rw (is, append-assoc front back y, chunk-tells (flatten more) s f g chunk, call .is)
-    (lines-append (goes s f g chunk .events) (tells-after (goes s f g chunk) (flatten more))
+    rw (is, append-assoc front back y, chunk-events (flatten more) s f g chunk, call .is)
+    (lines-append (goes s f g chunk .events) (events-after (goes s f g chunk) (flatten more))
     (take (call .len) (call .after)) (back ++ y) (d .wrote .lines)
     (rw (← d .session-is, ← d .first-is, ← d .second-is) (from-here more t s′ f′ g′ back y rest end)))
 

@@ -19,7 +19,7 @@ pub struct Due {
 }
 
 // The room of a call, and what must come back; the buffer that it must leave stands in a buffer.
-pub struct Told {
+pub struct Expected {
     pub room: usize,
     pub due: Due,
     pub next: usize,
@@ -74,7 +74,7 @@ fn left(text: &[u8], at: usize, out: &mut [u8]) -> Part
     }
 }
 
-pub fn read_told(text: &[u8], at: usize, after: &mut [u8]) -> Told
+pub fn read_expected(text: &[u8], at: usize, after: &mut [u8]) -> Expected
     requires { ⌜ length (now after) ≡ 16384 ⌝ }
     ensures { λ r. ⌜ r .room ≤ 16384 ⌝ }
 {
@@ -82,7 +82,7 @@ pub fn read_told(text: &[u8], at: usize, after: &mut [u8]) -> Told
     let number = read_natural(text, room.next);
     let pieces = read_natural(text, number.next);
     let bytes = left(text, pieces.next, after);
-    Told {
+    Expected {
         room: up_to(BUFFER, room.value),
         due: Due {
             number: number.value,

@@ -2,7 +2,7 @@
 use crate::call::BUFFER;
 use crate::call::Ran;
 use crate::call::cannot_be_read;
-use crate::call::read_told;
+use crate::call::read_expected;
 use crate::call::same;
 use crate::call::up_to;
 use desk::Outcome;
@@ -82,11 +82,11 @@ fn run(line: u64, text: &[u8], at: usize, buffer: &mut [u8], after: &mut [u8]) -
     let mut first = [0i32; LIST];
     let mut second = [0i32; LIST];
     let asked = read_asked(text, at, &mut first, &mut second);
-    let told = read_told(text, asked.next, after);
+    let expected = read_expected(text, asked.next, after);
     if !asked.good {
         return cannot_be_read(line, at);
     }
-    if !told.good {
+    if !expected.good {
         return cannot_be_read(line, at);
     }
     let got = ran(
@@ -94,12 +94,12 @@ fn run(line: u64, text: &[u8], at: usize, buffer: &mut [u8], after: &mut [u8]) -
         &first,
         asked.second,
         &second,
-        told.room,
+        expected.room,
         buffer,
     );
-    let due = told.due;
+    let due = expected.due;
     Ran {
-        next: told.next,
+        next: expected.next,
         right: same(b"line ", line, got, due, buffer, after),
     }
 }

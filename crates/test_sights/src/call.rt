@@ -24,7 +24,7 @@ pub const SOUND: u8 = 0;
 // What must come back: the number, and whether sight is told.
 pub struct Due {
     pub number: u8,
-    pub told: bool,
+    pub served: bool,
 }
 
 fn number_of(j: Judged) -> u8 {
@@ -67,26 +67,26 @@ pub fn holds(
 {
     fill(cells);
     let number = judged(xy);
-    let told = seen(xy, &mut cells[..lent]);
+    let served = seen(xy, &mut cells[..lent]);
     let place = agree(cells, after);
     if number == due.number {
-        if told == due.told {
+        if served == due.served {
             if place == cells.len() {
                 return true;
             }
         }
     }
     io::write_all(1, what);
-    report(line, number, told, place as u64);
+    report(line, number, served, place as u64);
     false
 }
 
-fn report(line: u64, number: u8, told: bool, place: u64) {
+fn report(line: u64, number: u8, served: bool, place: u64) {
     io::print_decimal(1, line);
     io::write_all(1, b": number ");
     io::print_decimal(1, number as u64);
-    io::write_all(1, b", told ");
-    io::print_decimal(1, counted(told));
+    io::write_all(1, b", served ");
+    io::print_decimal(1, counted(served));
     io::write_all(1, b"; the buffer is right up to place ");
     io::print_decimal(1, place);
     io::write_all(1, b"\n");

@@ -210,7 +210,7 @@ fn run(line: u64, text: &[u8], at: usize, xy: &mut [i32], room: &mut [u8], out: 
     let m = 2 * d.corners;
     let due = Due {
         number: d.number,
-        told: d.number != call::OUT_OF_RANGE,
+        served: d.number != call::OUT_OF_RANGE,
     };
     Ran {
         next: d.next,

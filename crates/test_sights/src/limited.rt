@@ -27,13 +27,13 @@ fn keeps(call: u64, xy: &[i32], lent: usize, number: u8) -> u64
     fill(&mut after);
     let due = Due {
         number: number,
-        told: false,
+        served: false,
     };
     counted(!holds(b"limits, call ", call, xy, lent, due, &mut room, &after))
 }
 
 // A triangle with just as many cells as are asked for: all see all.
-fn tells(call: u64) -> u64
+fn sees_all(call: u64) -> u64
     ensures { λ r. ⌜ r ≤ 1 ⌝ }
 {
     let triangle = [0i32, 0, 4, 0, 0, 4];
@@ -43,7 +43,7 @@ fn tells(call: u64) -> u64
     rows(b"111 111 111", 0, FEWEST_CORNERS, &mut after);
     let due = Due {
         number: SOUND,
-        told: true,
+        served: true,
     };
     counted(
         !holds(
@@ -66,7 +66,7 @@ pub fn all() {
     let two = keeps(3, &square[..4], BUFFER, MISSHAPEN);
     let none = keeps(4, &square[..0], BUFFER, MISSHAPEN);
     let most = keeps(5, &many, BUFFER, MISSHAPEN);
-    let least = tells(6);
+    let least = sees_all(6);
     io::write_all(1, b"limits: 6 calls, ");
     io::print_decimal(1, short + odd + two + none + most + least);
     io::write_all(1, b" differences\n");

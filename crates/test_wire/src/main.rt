@@ -10,7 +10,7 @@ use replay::tried;
 use report::counted;
 use report::lines;
 use report::place;
-use report::told;
+use report::print_counts;
 ghost use Rattle.io.specs.Counts.{Counts};
 
 // The largest files that can be run.
@@ -47,7 +47,7 @@ fn named(i: usize, j: usize, input: &mut [u8], expected: &mut [u8]) {
         place(found, &expected[..m]);
     }
     title(i);
-    told(lines(&expected[..m]), b" lines, ", counted(!found.same));
+    print_counts(lines(&expected[..m]), b" lines, ", counted(!found.same));
 }
 
 // The cases that the file of argument i packs.
@@ -55,7 +55,7 @@ fn many(i: usize, packed: &mut [u8]) {
     let n = load(i, packed);
     let tally = cases(&packed[..n]);
     title(i);
-    told(tally.count, b" inputs, ", tally.differences);
+    print_counts(tally.count, b" inputs, ", tally.differences);
 }
 
 fn all(input: &mut [u8], expected: &mut [u8]) {

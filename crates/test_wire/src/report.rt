@@ -35,7 +35,7 @@ pub fn counted(difference: bool) -> u64
 }
 
 // The line of a file: how many of what were compared, and how many of them differ.
-pub fn told(count: u64, what: &[u8], differences: u64) {
+pub fn print_counts(count: u64, what: &[u8], differences: u64) {
     io::write_all(1, b": ");
     io::print_decimal(1, count);
     io::write_all(1, what);

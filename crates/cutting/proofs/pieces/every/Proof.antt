@@ -5,7 +5,7 @@ use native.Mathlib.Omega.{arith}
 use borrow.Author.Needs.{needs}
 use borrow.Author.Count.{below-more}
 use Rattle.cutting.specs.Marks.{nextIn}
-use Rattle.cutting.proofs.Values.{never}
+use Rattle.cutting.proofs.Values.{clash}
 use Rattle.cutting.proofs.pieces.every.Statement.{statement}
 use Rattle.cutting.proofs.pieces.every.Tie as tie
 
@@ -25,7 +25,7 @@ add-if1 : tie.Need-add-if1 Inv-loop μ-loop
 add-if1 c = omega arith
 
 returns : tie.Need-returns Inv-loop μ-loop
-returns c = λ e. never (sym e)
+returns c = λ e. clash (sym e)
 
 add-c : tie.Need-add-c Inv-loop μ-loop
 add-c c = omega arith

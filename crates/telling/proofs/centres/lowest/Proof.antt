@@ -5,7 +5,7 @@ use mathlib.Core.Path.{_≡_, refl, sym, _∙_}
 use Prim.Native.Nat.{ℕ, _-_}
 use lib.ListN.{length, drop}
 use borrow.Author.Needs.{needs}
-use Rattle.rules.specs.Cells.{sight}
+use Rattle.rules.specs.Cells.{both-see}
 use Rattle.rules.specs.Lays.{all, centre}
 use Rattle.rules.specs.Lays as lays
 use Rattle.telling.proofs.Corners.{corner-small, first-on, first-at, first-end}
@@ -14,7 +14,7 @@ use Rattle.telling.proofs.centres.lowest.Tie as tie
 
 abbrev Inv-loop : tie.InvT-loop
 Inv-loop first second piece p₀ p =
-    centre (sight first second) piece ≡ lays.first (λ x. all (sight first second x) piece) (drop p piece)
+    centre (both-see first second) piece ≡ lays.first (λ x. all (both-see first second x) piece) (drop p piece)
 
 abbrev μ-loop : tie.MeasureT-loop
 μ-loop first second piece p₀ p = length piece - p
@@ -26,7 +26,7 @@ piece c = c .before .before .before .before .before .before .before .args .piece
 abbrev central : tie.After-wide Inv-loop μ-loop → ℕ → Bool
 central c x =
     let a = c .before .before .before .before .before .before .before .args in
-    all (sight (a .first .now) (a .second .now) x) (piece c)
+    all (both-see (a .first .now) (a .second .now) x) (piece c)
 
 -- ---- the needs
 loop-holds : tie.Need-loop-holds Inv-loop μ-loop

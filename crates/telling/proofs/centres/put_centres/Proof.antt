@@ -2,7 +2,7 @@
 use Prim.Native.Nat.{_+_, _-_}
 use native.Mathlib.Omega.{arith}
 use borrow.Author.Needs.{needs}
-use Rattle.rules.specs.Cells.{sight}
+use Rattle.rules.specs.Cells.{both-see}
 use Rattle.rules.specs.Lays.{centre}
 use Rattle.telling.proofs.Passes.{Passed, Next, half-none, next-small}
 use Rattle.telling.proofs.Passes.{passed-next, passed-kept, passed-more, passed-end}
@@ -10,7 +10,7 @@ use Rattle.telling.proofs.centres.put_centres.Statement.{statement}
 use Rattle.telling.proofs.centres.put_centres.Tie as tie
 
 abbrev Inv-loop : tie.InvT-loop
-Inv-loop first second out₀ bytes at₀ out at = Passed (centre (sight first second)) bytes out₀ out at
+Inv-loop first second out₀ bytes at₀ out at = Passed (centre (both-see first second)) bytes out₀ out at
 
 abbrev μ-loop : tie.MeasureT-loop
 μ-loop first second out₀ bytes at₀ out at = bytes - at

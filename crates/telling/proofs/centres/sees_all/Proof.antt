@@ -7,14 +7,14 @@ use lib.ListN.{length, drop}
 use borrow.Author.Needs.{needs}
 use borrow.Author.Tests.{not-true, not-false}
 use Rattle.limits.specs.Limits.{row}
-use Rattle.rules.specs.Cells.{filled, sight}
+use Rattle.rules.specs.Cells.{filled, both-see}
 use Rattle.rules.specs.Lays.{all}
 use Rattle.telling.proofs.Corners.{corner-small, all-on, all-off, all-end}
 use Rattle.telling.proofs.centres.sees_all.Statement.{statement}
 use Rattle.telling.proofs.centres.sees_all.Tie as tie
 
 abbrev Inv-loop : tie.InvT-loop
-Inv-loop first second piece x p₀ p = all (sight first second x) piece ≡ all (sight first second x) (drop p piece)
+Inv-loop first second piece x p₀ p = all (both-see first second x) piece ≡ all (both-see first second x) (drop p piece)
 
 abbrev μ-loop : tie.MeasureT-loop
 μ-loop first second piece x p₀ p = length piece - p
@@ -23,7 +23,7 @@ abbrev μ-loop : tie.MeasureT-loop
 abbrev seen : tie.After-wide Inv-loop μ-loop → ℕ → Bool
 seen c =
     let a = c .before .before .before .before .before .before .before .args in
-    sight (a .first .now) (a .second .now) (a .x)
+    both-see (a .first .now) (a .second .now) (a .x)
 
 abbrev piece : tie.After-wide Inv-loop μ-loop → List ℕ
 piece c = c .before .before .before .before .before .before .before .args .piece .now

@@ -1,4 +1,4 @@
--- `sight::read_corner`: the corners below x have been read with y.
+-- `reading::read_corner`: the corners below x have been read with y.
 use mathlib.Core.Path.{_≡_}
 use Prim.Native.Nat.{_≤_, _-_}
 use lib.ListN.{length}
@@ -6,8 +6,8 @@ use native.Mathlib.Omega.{arith}
 use borrow.Author.Needs.{needs}
 use Rattle.limits.specs.Limits.{all-cells}
 use Rattle.cutting.proofs.Readings.{Reading, reading-none, reading-more, reading-end, both-is}
-use Rattle.cutting.proofs.sight.read_corner.Statement.{statement}
-use Rattle.cutting.proofs.sight.read_corner.Tie as tie
+use Rattle.cutting.proofs.reading.read_corner.Statement.{statement}
+use Rattle.cutting.proofs.reading.read_corner.Tie as tie
 
 abbrev Inv-loop : tie.InvT-loop
 Inv-loop first second cuts₀ veil₀ n y x₀ cuts veil x =

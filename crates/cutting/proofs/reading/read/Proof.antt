@@ -1,4 +1,4 @@
--- `sight::read`: the corners below y have been read.
+-- `reading::read`: the corners below y have been read.
 use mathlib.Core.Path.{_≡_}
 use Prim.Native.Nat.{_≤_, _-_}
 use lib.ListN.{length}
@@ -6,8 +6,8 @@ use native.Mathlib.Omega.{arith}
 use Rattle.limits.specs.Limits.{all-cells}
 use Rattle.cutting.specs.Rows.{Read}
 use Rattle.cutting.proofs.Readings.{read-none, read-at}
-use Rattle.cutting.proofs.sight.read.Statement.{statement}
-use Rattle.cutting.proofs.sight.read.Tie as tie
+use Rattle.cutting.proofs.reading.read.Statement.{statement}
+use Rattle.cutting.proofs.reading.read.Tie as tie
 
 abbrev Inv-loop : tie.InvT-loop
 Inv-loop first second cuts₀ veil₀ n y₀ cuts veil y =

@@ -1,9 +1,9 @@
--- `sight::both`: one law for each return.
+-- `reading::both`: one law for each return.
 use native.Mathlib.Omega.{arith}
 use borrow.Author.Needs.{needs}
 use Rattle.cutting.proofs.Readings.{both-first, both-second, both-open}
-use Rattle.cutting.proofs.sight.both.Statement.{statement}
-use Rattle.cutting.proofs.sight.both.Tie as tie
+use Rattle.cutting.proofs.reading.both.Statement.{statement}
+use Rattle.cutting.proofs.reading.both.Tie as tie
 
 cell-requires : tie.Need-cell-requires
 cell-requires c κs = search needs
