@@ -125,13 +125,14 @@ fn choose(
     ensures { λ r. ⌜
         r ≡ betterIn (now (val .entry)) (now (left .entry)) (now (right .entry)) (now (col .entry)) i j best x ⌝ }
 {
-    if serves(val, left, right, i, j, x) {
-        if best == ROW {
-            return x;
-        }
-        if earlier(val, left, col, i, j, x, best) {
-            return x;
-        }
+    if !serves(val, left, right, i, j, x) {
+        return best;
+    }
+    if best == ROW {
+        return x;
+    }
+    if earlier(val, left, col, i, j, x, best) {
+        return x;
     }
     best
 }

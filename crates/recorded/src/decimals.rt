@@ -207,7 +207,10 @@ fn read_whole(text: &[u8], at: usize) -> Whole
 fn both(a: bool, b: bool) -> bool
     ensures { λ r. ⌜ r ≡ (a && b) ⌝ }
 {
-    if a { b } else { false }
+    if !a {
+        return false;
+    }
+    b
 }
 
 // As many words as `out` is long.

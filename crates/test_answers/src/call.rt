@@ -97,18 +97,25 @@ pub fn read_expected(text: &[u8], at: usize, after: &mut [u8]) -> Expected
 // Whether a call gave what it must; `what` and `line` name it where it did not.
 pub fn same(what: &[u8], line: u64, got: Outcome, due: Due, buffer: &[u8], after: &[u8]) -> bool {
     let place = agree(buffer, after);
-    if got.number as u64 == due.number {
-        if got.pieces as u64 == due.pieces {
-            if got.bytes as u64 == due.bytes {
-                if place == buffer.len() {
-                    return true;
-                }
-            }
-        }
+    if right(got, due, place, buffer.len()) {
+        return true;
     }
     io::write_all(1, what);
     report(line, got, place as u64);
     false
+}
+
+fn right(got: Outcome, due: Due, place: usize, end: usize) -> bool {
+    if got.number as u64 != due.number {
+        return false;
+    }
+    if got.pieces as u64 != due.pieces {
+        return false;
+    }
+    if got.bytes as u64 != due.bytes {
+        return false;
+    }
+    place == end
 }
 
 fn report(line: u64, got: Outcome, place: u64) {

@@ -21,7 +21,7 @@ pub const NOT_ANTICLOCKWISE: u8 = 5;
 
 pub const SOUND: u8 = 0;
 
-// What must come back: the number, and whether sight is told.
+// What comes back, or must: the number, and whether the call of `sight` is served.
 pub struct Due {
     pub number: u8,
     pub served: bool,
@@ -69,16 +69,26 @@ pub fn holds(
     let number = judged(xy);
     let served = seen(xy, &mut cells[..lent]);
     let place = agree(cells, after);
-    if number == due.number {
-        if served == due.served {
-            if place == cells.len() {
-                return true;
-            }
-        }
+    let got = Due {
+        number: number,
+        served: served,
+    };
+    if right(got, due, place, cells.len()) {
+        return true;
     }
     io::write_all(1, what);
     report(line, number, served, place as u64);
     false
+}
+
+fn right(got: Due, due: Due, place: usize, end: usize) -> bool {
+    if got.number != due.number {
+        return false;
+    }
+    if got.served != due.served {
+        return false;
+    }
+    place == end
 }
 
 fn report(line: u64, number: u8, served: bool, place: u64) {

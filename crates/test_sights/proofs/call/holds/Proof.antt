@@ -24,6 +24,9 @@ seen-requires c κs = tt
 agree-requires : tie.Need-agree-requires
 agree-requires c κs = tt
 
+right-requires : tie.Need-right-requires
+right-requires c κs = tt
+
 same-length : tie.Need-same-length
 same-length c = search needs
 
@@ -52,6 +55,7 @@ holds-spec =
     slice-aggregate-seen
     seen-requires
     agree-requires
+    right-requires
     same-length
     returns
     write-all-requires
