@@ -12,7 +12,7 @@ use borrow.Author.Count.{below-more}
 use lib.Seq.{getD-set-same, getD-set-other}
 use Rattle.limits.specs.Limits.{row, all-cells, place}
 use Rattle.rules.specs.Cells.{cell, marked, filled, filled-is, marked-wide, marked-small, marked-is, marked-other}
-use Rattle.rules.specs.Traced.{On}
+use Rattle.rules.specs.Traced.{LineOfRoad}
 use Rattle.cutting.specs.Marks.{Ticks, Ticked, Marked, Cleared, Started}
 
 pub above : (z : ℕ) → ¬ (z ≡ 0) → 0 < z
@@ -101,10 +101,10 @@ ticked-set {pairs} {pairs′} {c} {d} cd d64 t e = record {
 -- ---- the lines of a piece, those before c; rest is what is left of all
 pub record Marking (before out : List ℕ) (i : ℕ) (all : List ℕ) (c : ℕ) (rest : List ℕ) : Type 0 where
   pub ticks : Ticks out
-  pub sub : (p q : ℕ) → On c rest p q → On i all p q
-  pub drawn : (p q : ℕ) → On i all p q → suc p < q → On c rest p q ⊎ T (marked out p q)
+  pub sub : (p q : ℕ) → LineOfRoad c rest p q → LineOfRoad i all p q
+  pub drawn : (p q : ℕ) → LineOfRoad i all p q → suc p < q → LineOfRoad c rest p q ⊎ T (marked out p q)
   pub kept : (p q : ℕ) → T (marked before p q) → T (marked out p q)
-  pub only : (p q : ℕ) → T (marked out p q) → T (marked before p q) ⊎ (On i all p q × (suc p < q))
+  pub only : (p q : ℕ) → T (marked out p q) → T (marked before p q) ⊎ (LineOfRoad i all p q × (suc p < q))
 
 pub marking-none : {pairs : List ℕ} {i : ℕ} {all : List ℕ} → Ticks pairs → Marking pairs pairs i all i all
 marking-none t =
@@ -128,7 +128,7 @@ marking-more {before} {out} {out′} {i} {c} {d = d} {all} {rest} rest′ e q t�
     m′ : Marking before out i all c (d ∷ rest′)
     m′ = subst (λ (l : List ℕ). Marking before out i all c l) e m
 
-    here : (p q : ℕ) → suc p < q → On c (d ∷ rest′) p q → On d rest′ p q ⊎ T (marked out′ p q)
+    here : (p q : ℕ) → suc p < q → LineOfRoad c (d ∷ rest′) p q → LineOfRoad d rest′ p q ⊎ T (marked out′ p q)
     here p q l (inl z) = inr (rw (z .0, z .1) (t .drawn (omega (arith, z .0, z .1))))
     here p q l (inr z) = inl z
 
@@ -141,8 +141,8 @@ marking-end {before} {out} {i} {c} {all} {rest} e m = record {
   only = m .only;
 }
   where
-    none : (p q : ℕ) → On c rest p q → T (marked out p q)
-    none p q k = absurd (subst (λ (l : List ℕ). On c l p q) e k)
+    none : (p q : ℕ) → LineOfRoad c rest p q → T (marked out p q)
+    none p q k = absurd (subst (λ (l : List ℕ). LineOfRoad c l p q) e k)
 
 -- ---- the set is begun
 pub cleared-none : {pairs : List ℕ} → Cleared pairs 0

@@ -14,7 +14,7 @@ use Rattle.rules.specs.Cells.{cell}
 use Rattle.rules.specs.Columns.{pays, Least, Lane}
 use Rattle.rules.specs.Small.{least-same}
 use Rattle.cutting.specs.Rows.{none, lane, Veil, Blank, Reach, LaneOf, Laned}
-use Rattle.cutting.specs.Marks.{fitsIn, Lowest, Lanes}
+use Rattle.cutting.specs.Marks.{fitsIn, LowestFit, Lanes}
 use Rattle.cutting.proofs.Values.{clash}
 
 -- ---- the cheapest step, of those to corners below t
@@ -203,7 +203,7 @@ module _ {veil val left right col : List ℕ} {i j x : ℕ} where
       go y p h (no q) s = let e : x ≡ y = omega arith in subst (λ (k : ℕ). LaneOf veil val col′ k j) e (n .lane-is)
 
 -- up to the lowest that fits
-pub lanes-lowest : {veil val left right before col : List ℕ} {i j x : ℕ} → Lowest val left right i j x →
+pub lanes-lowest : {veil val left right before col : List ℕ} {i j x : ℕ} → LowestFit val left right i j x →
     Laned veil val before col x j → Lanes veil val left right col i j (x + 1)
 lanes-lowest {veil} {val} {left} {right} {before} {col} {i} {j} {x} w l =
     record { at = λ y p q h. go y p h (decLt y x) q }

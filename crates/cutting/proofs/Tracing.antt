@@ -17,12 +17,12 @@ use Rattle.rules.specs.Choice.{restOf, fits, pickOf, choiceOf}
 use Rattle.rules.specs.Ways.{Sees}
 use Rattle.rules.specs.Owns.{diag}
 use Rattle.rules.specs.Picks.{table, pick-within, pick-fits}
-use Rattle.rules.specs.Again.{Agree, next-same, rest-same, lane-unique, fits-same, pick-same}
+use Rattle.rules.specs.Again.{SameTables, next-same, rest-same, lane-unique, fits-same, pick-same}
 use Rattle.rules.specs.Unbeaten.{pick-lowest}
-use Rattle.rules.specs.Traced.{On, Whole, Traced}
+use Rattle.rules.specs.Traced.{LineOfRoad, Whole, Traced}
 use Rattle.rules.specs.Trace.{line-narrow}
 use Rattle.cutting.specs.Rows.{none, Cut, LaneOf}
-use Rattle.cutting.specs.Marks.{restIn, fitsIn, pickIn, EveryIn, Lowest, Lanes, Ticks, Marked, Ahead, Tracing}
+use Rattle.cutting.specs.Marks.{restIn, fitsIn, pickIn, EveryIn, LowestFit, Lanes, Ticks, Marked, Ahead, Tracing}
 use Rattle.cutting.proofs.Marking.{marked-says}
 use Rattle.cutting.proofs.Values.{clash}
 
@@ -107,7 +107,8 @@ module _ {cuts veil val left right pairs : List ℕ} {n i j : ℕ} (t : Tracing 
 
     -- ---- all lanes that fit are there: the pick is the old one
     module _ (col : List ℕ) (lanes : Lanes veil val left right col i j (j + 1)) where
-      agree : Agree (λ x. fits none one (cell val) (diag (t .road)) (λ y. t .road j y y) i j x ≡ true) (diag (t .road))
+      agree : SameTables
+          (λ x. fits none one (cell val) (diag (t .road)) (λ y. t .road j y y) i j x ≡ true) (diag (t .road))
           (t .road j) (cell left) (cell col) i j
       unfolding fit
       agree = record {
@@ -139,9 +140,9 @@ module _ {cuts veil val left right pairs : List ℕ} {n i j : ℕ} (t : Tracing 
           picked
 
     -- ---- the lane of the lowest is there, and takes every corner: it is the one
-    module _ (col : List ℕ) (x : ℕ) (low : Lowest val left right i j x) (l : LaneOf veil val col x j)
+    module _ (col : List ℕ) (x : ℕ) (low : LowestFit val left right i j x) (l : LaneOf veil val col x j)
         (every : EveryIn val left col j x i) where
-      one-lane : Agree (λ y. y ≡ x) (diag (t .road)) (t .road j) (cell left) (cell col) i j
+      one-lane : SameTables (λ y. y ≡ x) (diag (t .road)) (t .road j) (cell left) (cell col) i j
       one-lane = record {
         lefts = lefts;
         cols =
@@ -184,7 +185,7 @@ module _ {cuts veil val left right pairs : List ℕ} {n i j : ℕ} (t : Tracing 
 
     -- ---- its lines come into the set
     module _ {pairs′ : List ℕ} (M : Marked pairs pairs′ i (choiceOf none one (cell val) (t .road) i j)) where
-      narrow : (c d : ℕ) → On i (choiceOf none one (cell val) (t .road) i j) c d →
+      narrow : (c d : ℕ) → LineOfRoad i (choiceOf none one (cell val) (t .road) i j) c d →
           (i ≤ c) × (c < d) × (d ≤ j) × (d + i < j + c) × Way (Cut cuts) (λ a b. cell val a b < none) c d
       unfolding may choice
       narrow c d o = line-narrow (t .big) tab i j c d (line .0) (line .1) (line .2) (line .3) o
@@ -202,7 +203,7 @@ module _ {cuts veil val left right pairs : List ℕ} {n i j : ℕ} (t : Tracing 
             (M .only a b k);
       }
         where
-          new-way : (c d : ℕ) → On i (choiceOf none one (cell val) (t .road) i j) c d × (suc c < d) →
+          new-way : (c d : ℕ) → LineOfRoad i (choiceOf none one (cell val) (t .road) i j) c d × (suc c < d) →
               (suc c < d) × (d < suc (t .m)) × (cell val c d < none) × Closes (Cut cuts) (suc (t .m)) c d
           new-way c d z =
               let q = narrow c d (z .0) in
@@ -211,10 +212,12 @@ module _ {cuts veil val left right pairs : List ℕ} {n i j : ℕ} (t : Tracing 
 
           old-up : (c d : ℕ) →
               Whole (t .m) c d ⊎
-              ((a : ℕ) × (b : ℕ) × T (marked pairs a b) × On a (choiceOf none one (cell val) (t .road) a b) c d ×
+              ((a : ℕ) × (b : ℕ) × T (marked pairs a b)
+              × LineOfRoad a (choiceOf none one (cell val) (t .road) a b) c d ×
               (d + a < b + c)) →
               Whole (t .m) c d ⊎
-              ((a : ℕ) × (b : ℕ) × T (marked pairs′ a b) × On a (choiceOf none one (cell val) (t .road) a b) c d ×
+              ((a : ℕ) × (b : ℕ) × T (marked pairs′ a b)
+              × LineOfRoad a (choiceOf none one (cell val) (t .road) a b) c d ×
               (d + a < b + c))
           old-up c d (inl e) = inl e
           old-up c d (inr z) = inr (z .0, z .1, M .kept (z .0) (z .1) (z .2), z .3, z .4)
@@ -228,12 +231,12 @@ module _ {cuts veil val left right pairs : List ℕ} {n i j : ℕ} (t : Tracing 
               go (no q) = inr (omega (arith, p .1), p .0)
 
           old-down : (a b c d : ℕ) → Ahead (i + 1) j a b → T (marked pairs a b) →
-              On a (choiceOf none one (cell val) (t .road) a b) c d → suc c < d → T (marked pairs′ c d)
+              LineOfRoad a (choiceOf none one (cell val) (t .road) a b) c d → suc c < d → T (marked pairs′ c d)
           old-down a b c d s k o l =
               ⊎-elim (λ z. M .kept c d (t .traced .down a b c d z k o l))
               (λ z. M .drawn c d
-              (subst (λ (y : ℕ). On i (choiceOf none one (cell val) (t .road) i y) c d) (z .1)
-              (subst (λ (x : ℕ). On x (choiceOf none one (cell val) (t .road) x b) c d) (z .0) o)) l)
+              (subst (λ (y : ℕ). LineOfRoad i (choiceOf none one (cell val) (t .road) i y) c d) (z .1)
+              (subst (λ (x : ℕ). LineOfRoad x (choiceOf none one (cell val) (t .road) x b) c d) (z .0) o)) l)
               (now a b s)
 
           clash : (a b : ℕ) → Ahead (i + 1) j a b →

@@ -14,7 +14,7 @@ use Rattle.rules.specs.Columns.{Solved}
 use Rattle.rules.specs.Choice.{nextOf, restOf, fits, better, pickOf, choiceOf}
 use Rattle.rules.specs.Ways.{Sees}
 use Rattle.rules.specs.Unbeaten.{Every}
-use Rattle.rules.specs.Traced.{On, Traced}
+use Rattle.rules.specs.Traced.{LineOfRoad, Traced}
 use Rattle.cutting.specs.Rows.{none, Cut, Rights, Filled, LaneOf}
 
 -- ---- the piece that is taken, read off the tables
@@ -45,7 +45,7 @@ pub record Routes (val left col : List ℕ) (j : ℕ) : Type 0 where
   pub last : j < row
 
 -- r is the lowest centre of the line i j that fits; j where none before it does
-pub record Lowest (val left right : List ℕ) (i j r : ℕ) : Type 0 where
+pub record LowestFit (val left right : List ℕ) (i j r : ℕ) : Type 0 where
   pub from : i ≤ r
   pub to : r ≤ j
   pub before : (y : ℕ) → i ≤ y → y < r → fitsIn val left right i j y ≡ false
@@ -79,9 +79,9 @@ pub record Ticked (before after : List ℕ) (c d : ℕ) : Type 0 where
 -- the lines of the road from a along s that are no sides were added
 pub record Marked (before after : List ℕ) (a : ℕ) (s : List ℕ) : Type 0 where
   pub ticks : Ticks after
-  pub drawn : (c d : ℕ) → On a s c d → suc c < d → T (marked after c d)
+  pub drawn : (c d : ℕ) → LineOfRoad a s c d → suc c < d → T (marked after c d)
   pub kept : (c d : ℕ) → T (marked before c d) → T (marked after c d)
-  pub only : (c d : ℕ) → T (marked after c d) → T (marked before c d) ⊎ (On a s c d × (suc c < d))
+  pub only : (c d : ℕ) → T (marked after c d) → T (marked before c d) ⊎ (LineOfRoad a s c d × (suc c < d))
 
 -- the ranges to a corner above j have been looked at, and those to j from below i
 abbrev pub Ahead : ℕ → ℕ → ℕ → ℕ → Type 0

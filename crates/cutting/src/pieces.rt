@@ -15,7 +15,7 @@ ghost use Rattle.rules.specs.Choice.{Sought, less};
 ghost use Rattle.rules.specs.Cells.{cell};
 ghost use Rattle.cutting.specs.Rows.{none, Veil};
 ghost use Rattle.cutting.specs.Marks.{Routes, Next, restIn, fitsIn, betterIn, pickIn};
-ghost use Rattle.cutting.specs.Marks.{Lowest, EveryIn, Lanes, Chosen};
+ghost use Rattle.cutting.specs.Marks.{LowestFit, EveryIn, Lanes, Chosen};
 
 // The corner after c on the road of x to t: the smallest whose step and rest cost what the road costs; t where no
 // other does.
@@ -81,7 +81,7 @@ fn lowest(val: &[u8], left: &[u8], right: &[u8], i: usize, j: usize) -> usize
     requires { ⌜
         (length (now val) ≡ all-cells) × (length (now left) ≡ all-cells) × (length (now right) ≡ all-cells) ×
         (j < row) × (i ≤ j) ⌝ }
-    ensures { λ r. ⌜ Lowest (now (val .entry)) (now (left .entry)) (now (right .entry)) i j r ⌝ }
+    ensures { λ r. ⌜ LowestFit (now (val .entry)) (now (left .entry)) (now (right .entry)) i j r ⌝ }
 {
     let mut x = i;
     while x < j {

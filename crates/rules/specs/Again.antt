@@ -51,12 +51,12 @@ module _ {top : ℕ} {veil val col col′ : ℕ → ℕ → ℕ} {m j lo lo′ x
   lane-unique a la la′ aj = unique j a la la′ aj (omega arith)
 
 -- ---- tables that agree where a centre that fits is read, from lo on: the way to it, and the way on from it
-pub record Agree (fit : ℕ → Type 0) (left col left′ col′ : ℕ → ℕ → ℕ) (lo j : ℕ) : Type 0 where
+pub record SameTables (fit : ℕ → Type 0) (left col left′ col′ : ℕ → ℕ → ℕ) (lo j : ℕ) : Type 0 where
   pub lefts : (b x : ℕ) → lo ≤ b → b ≤ x → x ≤ j → left′ b x ≡ left b x
   pub cols : (b x : ℕ) → fit x → lo ≤ x → x ≤ b → b ≤ j → col′ b x ≡ col b x
 
 module _ (top : ℕ) (w val : ℕ → ℕ → ℕ) {fit : ℕ → Type 0} {left col left′ col′ : ℕ → ℕ → ℕ} {lo j : ℕ}
-    (agree : Agree fit left col left′ col′ lo j) where
+    (agree : SameTables fit left col left′ col′ lo j) where
   pub next-same : (x c : ℕ) → fit x → lo ≤ x → x ≤ j → lo ≤ c → c < j →
       nextOf top w val left′ col′ x j c ≡ nextOf top w val left col x j c
   next-same x c f lx xj lc cj = go (decLt c x)
@@ -87,7 +87,7 @@ fits-same top w val left left′ right right′ i j x e f =
     ap (λ (z : ℕ). eqb (min top (min top z + w i j)) (val i j)) (ap₂ _+_ e f)
 
 module _ (top : ℕ) (w val : ℕ → ℕ → ℕ) {left col left′ col′ : ℕ → ℕ → ℕ} {right right′ : ℕ → ℕ} {i j : ℕ} (ij : i ≤ j)
-    (agree : Agree (λ x. fits top w val left right i j x ≡ true) left col left′ col′ i j)
+    (agree : SameTables (λ x. fits top w val left right i j x ≡ true) left col left′ col′ i j)
     (rights : (x : ℕ) → i ≤ x → x ≤ j → right′ x ≡ right x) where
   InRange : ℕ → Type 0
   InRange b = (b ≡ row) ⊎ ((i ≤ b) × (b ≤ j) × (fits top w val left right i j b ≡ true))

@@ -42,7 +42,7 @@ pub record Lane (top : ℕ) (veil val : ℕ → ℕ → ℕ) (x j lo : ℕ) (col
   pub unseen : (a : ℕ) → lo ≤ a → a < j → ¬ (veil a x ≡ 0) → col a x ≡ top
 
 -- v is the least that a piece on the line i j costs, over its centres: low for i, high for j, mid for those between
-pub record Best (top : ℕ) (w veil val col : ℕ → ℕ → ℕ) (through : ℕ → ℕ) (i j v : ℕ) : Type 0 where
+pub record LeastOver (top : ℕ) (w veil val col : ℕ → ℕ → ℕ) (through : ℕ → ℕ) (i j v : ℕ) : Type 0 where
   pub low : ℕ
   pub mid : ℕ
   pub high : ℕ
@@ -56,7 +56,7 @@ pub record Valued (top : ℕ) (w : ℕ → ℕ → ℕ) (cut : ℕ → ℕ → T
     (n i j v : ℕ) : Type 0 where
   pub side : j ≡ suc i → v ≡ 0
   pub barred : suc i < j → ¬ rules.Closes cut n i j → v ≡ top
-  pub shut : suc i < j → rules.Closes cut n i j → Best top w veil val col through i j v
+  pub shut : suc i < j → rules.Closes cut n i j → LeastOver top w veil val col through i j v
 
 -- what column j adds to the tables of pairs, from the corner lo on; m centres are counted, n corners there are
 pub record Columned (top : ℕ) (w : ℕ → ℕ → ℕ) (cut : ℕ → ℕ → Type 0) (veil val left : ℕ → ℕ → ℕ) (m n j lo : ℕ)

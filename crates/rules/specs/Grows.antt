@@ -3,7 +3,7 @@ use mathlib.Core.Path.{_≡_, refl, sym, ap₂, subst, _∙_}
 use Prim.Native.Nat.{ℕ, suc, _+_, _<_, _≤_}
 use native.Mathlib.Omega.{arith}
 use native.Mathlib.Decide.{decLt}
-use Rattle.rules.specs.Columns.{pays, Least, Column, Best, Valued, Columned}
+use Rattle.rules.specs.Columns.{pays, Least, Column, LeastOver, Valued, Columned}
 use Rattle.rules.specs.Small.{least-same}
 
 -- ---- columns by cells that are the same from lo on
@@ -26,8 +26,8 @@ module _ {val val′ col col′ : ℕ → ℕ → ℕ} {m b lo : ℕ} (le : lo �
 
   module _ {left left′ : ℕ → ℕ → ℕ} (lefts : (a x : ℕ) → lo ≤ a → a ≤ x → x ≤ b → left′ a x ≡ left a x) where
     best-kept : {top : ℕ} {w veil : ℕ → ℕ → ℕ} (i v v′ : ℕ) → lo ≤ i → i < b → v′ ≡ v →
-        Best top w veil val col (λ x. left i x + col x x) i b v →
-        Best top w veil val′ col′ (λ x. left′ i x + col′ x x) i b v′
+        LeastOver top w veil val col (λ x. left i x + col x x) i b v →
+        LeastOver top w veil val′ col′ (λ x. left′ i x + col′ x x) i b v′
     best-kept i v v′ li ib e l = record {
       low = l .low;
       mid = l .mid;

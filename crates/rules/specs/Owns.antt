@@ -13,7 +13,7 @@ use Rattle.rules.specs.Cheapest.{cheapest-map}
 use Rattle.rules.specs.Table.{Way, Piece}
 use Rattle.rules.specs.Roads.{path, BestRoad, step-road, road-reaches}
 use Rattle.rules.specs.Search.{BestPiece, centre-at-end, centre-between}
-use Rattle.rules.specs.Columns.{pays, costs, Least, Best, Solved}
+use Rattle.rules.specs.Columns.{pays, costs, Least, LeastOver, Solved}
 use Rattle.rules.specs.Choice.{sought, stepOf, nextOf, restOf, fits}
 use Rattle.rules.specs.Seek.{sought-from, next-left, next-right}
 use Rattle.rules.specs.Follow.{step-goes, next-goes, path-next, path-same, path-split}
@@ -26,11 +26,11 @@ abbrev pub diag : (ℕ → ℕ → ℕ → ℕ) → ℕ → ℕ → ℕ
 diag road a x = road x a x
 
 -- the piece of the centre x is as cheap as the value of the line i j says
-abbrev pub Fit : (ℕ → ℕ → ℕ) → (ℕ → ℕ → ℕ) → (ℕ → ℕ → ℕ → ℕ) → ℕ → ℕ → ℕ → Type 0
-Fit w val road i j x = road x i x + road j x x + w i j ≡ val i j
+abbrev pub Attains : (ℕ → ℕ → ℕ) → (ℕ → ℕ → ℕ) → (ℕ → ℕ → ℕ → ℕ) → ℕ → ℕ → ℕ → Type 0
+Attains w val road i j x = road x i x + road j x x + w i j ≡ val i j
 
 pub fits-fit : (top : ℕ) (w val : ℕ → ℕ → ℕ) (road : ℕ → ℕ → ℕ → ℕ) (i j x : ℕ) → val i j < top →
-    fits top w val (diag road) (λ y. road j y y) i j x ≡ true → Fit w val road i j x
+    fits top w val (diag road) (λ y. road j y y) i j x ≡ true → Attains w val road i j x
 unfolding fits
 fits-fit top w val road i j x lt e =
     let q : min top (min top (road x i x + road j x x) + w i j) ≡ val i j =
@@ -38,7 +38,7 @@ fits-fit top w val road i j x lt e =
     omega (arith, q)
 
 pub fit-fits : (top : ℕ) (w val : ℕ → ℕ → ℕ) (road : ℕ → ℕ → ℕ → ℕ) (i j x : ℕ) → val i j < top →
-    Fit w val road i j x →
+    Attains w val road i j x →
     fits top w val (diag road) (λ y. road j y y) i j x ≡ true
 unfolding fits
 fit-fits top w val road i j x lt e =
@@ -46,7 +46,7 @@ fit-fits top w val road i j x lt e =
 
 module _ {top : ℕ} {w : ℕ → ℕ → ℕ} {cut : ℕ → ℕ → Type 0} {veil val left : ℕ → ℕ → ℕ} {road : ℕ → ℕ → ℕ → ℕ} {n : ℕ}
     (solved : Solved top w cut veil val left road n) {i j : ℕ} (ij : suc i < j) (jn : j < n)
-    (best : Best top w veil val (road j) (λ x. road x i x + road j x x) i j (val i j)) where
+    (best : LeastOver top w veil val (road j) (λ x. road x i x + road j x x) i j (val i j)) where
   abbrev PieceOf : ℕ → List ℕ → Type 0
   PieceOf x = Piece cut (May top val) (Centre (Sees veil) x) i j
 
@@ -68,7 +68,7 @@ module _ {top : ℕ} {w : ℕ → ℕ → ℕ} {cut : ℕ → ℕ → Type 0} {v
   corner : (x : ℕ) → x ≤ j → x < n
   corner x h = omega arith
 
-  pub fit-sights : (x : ℕ) → i ≤ x → x ≤ j → val i j < top → Fit w val road i j x → Sights x
+  pub fit-sights : (x : ℕ) → i ≤ x → x ≤ j → val i j < top → Attains w val road i j x → Sights x
   fit-sights x ix xj lt k = (
     road-first solved i x x ix (omega arith) (corner x xj) (omega arith),
     road-first solved x j x xj jn (corner x xj) (omega arith),
@@ -81,8 +81,9 @@ module _ {top : ℕ} {w : ℕ → ℕ → ℕ} {cut : ℕ → ℕ → Type 0} {v
     pub p : List ℕ
     pub piece : BestPiece cut (May top val) val (Sees veil) x i j (v < top) v p
     pub low : v < top → (w i j + v < top) × (val i j ≤ w i j + v)
-    pub to : v < top → val i j ≡ w i j + v → Fit w val road i j x × (p ≡ restOf top w val (diag road) (road j) x j i)
-    pub from : val i j < top → Fit w val road i j x → val i j ≡ w i j + v
+    pub to : v < top → val i j ≡ w i j + v →
+        Attains w val road i j x × (p ≡ restOf top w val (diag road) (road j) x j i)
+    pub from : val i j < top → Attains w val road i j x → val i j ≡ w i j + v
 
   -- ---- an end of the line as the centre
   module _ (x lw : ℕ) (e : (x ≡ i) ⊎ (x ≡ j)) (sights : Sights x) (least : Least top (pays val (road j) x i) i j lw)
@@ -168,7 +169,7 @@ module _ {top : ℕ} {w : ℕ → ℕ → ℕ} {cut : ℕ → ℕ → Type 0} {v
         (stepping solved i j j x lw first (omega arith) jn (omega arith) (λ z. jn) xn least
         (sought-from (costs top val (road j) x i) lw i j (omega arith)))
 
-    end-fit : lw < top → val i j ≡ w i j + lw → Fit w val road i j x × (road j i x ≡ lw)
+    end-fit : lw < top → val i j ≡ w i j + lw → Attains w val road i j x × (road j i x ≡ lw)
     end-fit h q =
         let l = road-low h in
         let r : road j i x ≡ lw = omega (arith, road-high (omega (arith, weighs)) (omega (arith, weighs))) in
@@ -246,7 +247,7 @@ module _ {top : ℕ} {w : ℕ → ℕ → ℕ} {cut : ℕ → ℕ → Type 0} {v
 
   -- ---- some centre fits
   end-fits : (x lw : ℕ) → (x ≡ i) ⊎ (x ≡ j) → Least top (pays val (road j) x i) i j lw → veil i x ≡ 0 →
-      val i j ≡ w i j + lw → lw < top → Fit w val road i j x
+      val i j ≡ w i j + lw → lw < top → Attains w val road i j x
   end-fits x lw e l s q h = end-fit x lw e (s, itself e, last) l (omega arith) h q .0
     where
       last : Sees veil x j
@@ -262,12 +263,12 @@ module _ {top : ℕ} {w : ℕ → ℕ → ℕ} {cut : ℕ → ℕ → Type 0} {v
       itself (inl q) = subst (λ (k : ℕ). veil k x ≡ 0) (sym q) s
       itself (inr q) = subst (λ (k : ℕ). veil k x ≡ 0) (sym q) last
 
-  pub some-fits : val i j < top → (x : ℕ) × (i ≤ x) × (x ≤ j) × Fit w val road i j x
+  pub some-fits : val i j < top → (x : ℕ) × (i ≤ x) × (x ≤ j) × Attains w val road i j x
   some-fits lt = go (min-hit _ _ _ _ _ _ (best .is) lt)
     where
       go : (val i j ≡ w i j + best .mid) ⊎
           ((val i j ≡ w i j + (best .low + veil i i)) ⊎ (val i j ≡ w i j + (best .high + veil i j))) →
-          (x : ℕ) × (i ≤ x) × (x ≤ j) × Fit w val road i j x
+          (x : ℕ) × (i ≤ x) × (x ≤ j) × Attains w val road i j x
       go (inl e) =
           let c = best .mid-is .hit (omega arith) in
           (c .0, omega (arith, c .1), omega (arith, c .2), omega (arith, c .3))

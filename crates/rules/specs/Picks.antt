@@ -16,11 +16,11 @@ use Rattle.rules.specs.Centre.{Centre, HasCentre}
 use Rattle.rules.specs.Table.{Way, Piece, Table, Closes, road-rise, sum}
 use Rattle.rules.specs.Search.{Serves, Picked, try-best, star-table}
 use Rattle.limits.specs.Limits.{row}
-use Rattle.rules.specs.Columns.{Best, Solved}
+use Rattle.rules.specs.Columns.{LeastOver, Solved}
 use Rattle.rules.specs.Choice.{restOf, fits, less, better, pickFrom, pickOf, choiceOf}
 use Rattle.rules.specs.Small.{best-of, value-at}
 use Rattle.rules.specs.Ways.{May, Sees}
-use Rattle.rules.specs.Owns.{diag, Fit, fits-fit, fit-fits, Own, own, piece-sights, fit-sights, some-fits}
+use Rattle.rules.specs.Owns.{diag, Attains, fits-fit, fit-fits, Own, own, piece-sights, fit-sights, some-fits}
 
 never : {A : Type 0} → true ≡ false → A
 never e = let z : _≡_ {A = ℕ} 0 1 = cc in absurd (omega arith)
@@ -49,7 +49,7 @@ Less-less (a ∷ s) (b ∷ t) (inr h) = go (ltb a b) (Less-less s t (h .1))
 
 module _ {top : ℕ} {w : ℕ → ℕ → ℕ} {cut : ℕ → ℕ → Type 0} {veil val left : ℕ → ℕ → ℕ} {road : ℕ → ℕ → ℕ → ℕ} {n : ℕ}
     (n64 : n ≤ row) (solved : Solved top w cut veil val left road n) {i j : ℕ} (ij : suc i < j) (jn : j < n)
-    (best : Best top w veil val (road j) (λ x. road x i x + road j x x) i j (val i j)) where
+    (best : LeastOver top w veil val (road j) (λ x. road x i x + road j x x) i j (val i j)) where
   rest : ℕ → List ℕ
   rest x = restOf top w val (diag road) (road j) x j i
 
@@ -58,11 +58,11 @@ module _ {top : ℕ} {w : ℕ → ℕ → ℕ} {cut : ℕ → ℕ → Type 0} {v
   Leads b x = Upto (rest b) (rest x) (rest b) (rest x)
 
   module _ (lt : val i j < top) where
-    own-of : (x : ℕ) → i ≤ x → x ≤ j → Fit w val road i j x → Own solved ij jn best x
+    own-of : (x : ℕ) → i ≤ x → x ≤ j → Attains w val road i j x → Own solved ij jn best x
     own-of x ix xj f = own solved ij jn best x ix xj (fit-sights solved ij jn best x ix xj lt f)
 
     -- the road of a centre that fits is its piece
-    fit-piece : (x : ℕ) → i ≤ x → x ≤ j → Fit w val road i j x →
+    fit-piece : (x : ℕ) → i ≤ x → x ≤ j → Attains w val road i j x →
         Piece cut (May top val) (Centre (Sees veil) x) i j (rest x) × (w i j + sum val i (rest x) ≡ val i j)
     unfolding rest
     fit-piece x ix xj f =
@@ -72,13 +72,13 @@ module _ {top : ℕ} {w : ℕ → ℕ → ℕ} {cut : ℕ → ℕ → Type 0} {v
         let r = o .to (omega arith) e .1 in
         (subst (Piece cut (May top val) (Centre (Sees veil) x) i j) r (a .0), omega (arith, a .1, ap (sum val i) r))
 
-    rises : (x : ℕ) → i ≤ x → x ≤ j → Fit w val road i j x → Rise i j (rest x)
+    rises : (x : ℕ) → i ≤ x → x ≤ j → Attains w val road i j x → Rise i j (rest x)
     rises x ix xj f = road-rise (Way cut (May top val)) i j (rest x) (fit-piece x ix xj f .0 .1)
 
     -- ---- of the k centres from i on, b is the one to take
     record Led (k b : ℕ) : Type 0 where
-      pub is : (b ≡ row) ⊎ ((i ≤ b) × (b < i + k) × Fit w val road i j b)
-      pub leads : (x : ℕ) → i ≤ x → x < i + k → Fit w val road i j x → (b < row) × Leads b x
+      pub is : (b ≡ row) ⊎ ((i ≤ b) × (b < i + k) × Attains w val road i j b)
+      pub leads : (x : ℕ) → i ≤ x → x < i + k → Attains w val road i j x → (b < row) × Leads b x
 
     module _ (k b x : ℕ) (e : x ≡ i + k) (xj : x ≤ j) (l : Led k b) where
       new-or-old : (y : ℕ) → y < i + suc k → (y ≡ x) ⊎ (y < i + k)
@@ -88,7 +88,8 @@ module _ {top : ℕ} {w : ℕ → ℕ → ℕ} {cut : ℕ → ℕ → Type 0} {v
           go (yes p) = inr p
           go (no p) = inl (omega arith)
 
-      took : Fit w val road i j x → ((y : ℕ) → i ≤ y → y < i + k → Fit w val road i j y → Less (rest x) (rest y)) →
+      took : Attains w val road i j x →
+          ((y : ℕ) → i ≤ y → y < i + k → Attains w val road i j y → Less (rest x) (rest y)) →
           Led (suc k) x
       took f g = record {
         is = inr (omega arith, omega arith, f);
@@ -97,11 +98,11 @@ module _ {top : ℕ} {w : ℕ → ℕ → ℕ} {cut : ℕ → ℕ → Type 0} {v
             (omega (arith, n64), ⊎-elim (λ z. inl (ap rest (sym z))) (λ z. inr (g y iy z fy)) (new-or-old y yk));
       }
 
-      stayed : (Fit w val road i j x → (b < row) × Leads b x) → Led (suc k) b
+      stayed : (Attains w val road i j x → (b < row) × Leads b x) → Led (suc k) b
       stayed g = record {
         is = ⊎-elim inl (λ z. inr (z .0, omega (arith, z .1), z .2)) (l .is);
         leads = λ y iy yk fy.
-            ⊎-elim (λ z. subst (λ (u : ℕ). (b < row) × Leads b u) (sym z) (g (subst (Fit w val road i j) z fy)))
+            ⊎-elim (λ z. subst (λ (u : ℕ). (b < row) × Leads b u) (sym z) (g (subst (Attains w val road i j) z fy)))
             (λ z. l .leads y iy z fy) (new-or-old y yk);
       }
 
@@ -110,10 +111,10 @@ module _ {top : ℕ} {w : ℕ → ℕ → ℕ} {cut : ℕ → ℕ → Type 0} {v
       past p y (inl q) = subst (Less (rest x)) q p
       past p y (inr q) = less-trans (rest x) (rest b) (rest y) p q
 
-      kept : less (rest x) (rest b) ≡ false → ¬ (b ≡ row) → Fit w val road i j x → (b < row) × Leads b x
+      kept : less (rest x) (rest b) ≡ false → ¬ (b ≡ row) → Attains w val road i j x → (b < row) × Leads b x
       kept d ne f = go (l .is)
         where
-          go : (b ≡ row) ⊎ ((i ≤ b) × (b < i + k) × Fit w val road i j b) → (b < row) × Leads b x
+          go : (b ≡ row) ⊎ ((i ≤ b) × (b < i + k) × Attains w val road i j b) → (b < row) × Leads b x
           go (inl z) = absurd (ne z)
           go (inr z) =
               let bj : b ≤ j = omega (arith, z .1) in (
@@ -157,14 +158,14 @@ module _ {top : ℕ} {w : ℕ → ℕ → ℕ} {cut : ℕ → ℕ → Type 0} {v
 
     pub picked-fits : (i ≤ pickOf top w val (diag road) (road j) (λ y. road j y y) i j) ×
         (pickOf top w val (diag road) (road j) (λ y. road j y y) i j ≤ j) ×
-        Fit w val road i j (pickOf top w val (diag road) (road j) (λ y. road j y y) i j)
+        Attains w val road i j (pickOf top w val (diag road) (road j) (λ y. road j y y) i j)
     picked-fits =
         let s = some-fits solved ij jn best lt in
         go (pickOf top w val (diag road) (road j) (λ y. road j y y) i j)
         (whole .leads (s .0) (s .1) (omega (arith, s .2)) (s .3) .0) (whole .is)
       where
-        go : (x : ℕ) → x < row → (x ≡ row) ⊎ ((i ≤ x) × (x < i + suc (j - i)) × Fit w val road i j x) →
-            (i ≤ x) × (x ≤ j) × Fit w val road i j x
+        go : (x : ℕ) → x < row → (x ≡ row) ⊎ ((i ≤ x) × (x < i + suc (j - i)) × Attains w val road i j x) →
+            (i ≤ x) × (x ≤ j) × Attains w val road i j x
         go x h (inl e) = absurd (omega arith)
         go x h (inr z) = (z .0, omega (arith, z .1), z .2)
 
@@ -176,7 +177,7 @@ module _ {top : ℕ} {w : ℕ → ℕ → ℕ} {cut : ℕ → ℕ → Type 0} {v
   ServesOf = Serves cut w (May top val) val (choiceOf top w val road) (Sees veil) i j
 
   -- the piece taken is not after the road of a centre that fits
-  ahead : (lt : val i j < top) (x : ℕ) → i ≤ x → x ≤ j → Fit w val road i j x → (p : List ℕ) → p ≡ rest x →
+  ahead : (lt : val i j < top) (x : ℕ) → i ≤ x → x ≤ j → Attains w val road i j x → (p : List ℕ) → p ≡ rest x →
       Upto (choiceOf top w val road i j) p (choiceOf top w val road i j) p
   ahead lt x ix xj f p e =
       subst (λ (c : List ℕ). Upto c p c p) (sym choice-is)

@@ -6,7 +6,7 @@ use Prim.Native.Nat.{ℕ, zero, suc, _+_, _<_, _≤_, min}
 use native.Mathlib.Omega.{arith}
 use native.Mathlib.Decide.{decLt, ℕ-discrete}
 use Rattle.rules.specs.Table.{Closes}
-use Rattle.rules.specs.Columns.{pays, Least, Column, Best, Valued, Columned, Light, Solved}
+use Rattle.rules.specs.Columns.{pays, Least, Column, LeastOver, Valued, Columned, Light, Solved}
 
 -- ---- what the least over the centres says
 pub min-low : (t v w m a b : ℕ) → v ≡ min t (w + min (min m (min t a)) (min t b)) →
@@ -83,7 +83,7 @@ module _ {top : ℕ} {w : ℕ → ℕ → ℕ} {cut : ℕ → ℕ → Type 0} {v
 
   -- ---- the value of a line, with the roads themselves in the place of left
   pub best-of : (i j : ℕ) → suc i < j → j < n → Closes cut n i j →
-      Best top w veil val (road j) (λ x. road x i x + road j x x) i j (val i j)
+      LeastOver top w veil val (road j) (λ x. road x i x + road j x x) i j (val i j)
   best-of i j ij jn c =
       let b = solved .columns j jn .value i (omega arith) (omega arith) .shut ij c in
       record {
@@ -118,7 +118,8 @@ module _ {top : ℕ} {w : ℕ → ℕ → ℕ} {cut : ℕ → ℕ → Type 0} {v
       omega (arith, c .3, k .0 .0 (omega (arith, c .3)), k .1 .1 x xn (omega (arith, c .3)))
 
   best-small : (i j v : ℕ) → i < j → j < n → Within i j →
-      Best top w veil val (road j) (λ x. road x i x + road j x x) i j v → v < top → v + scale i + heaviest ≤ scale j
+      LeastOver top w veil val (road j) (λ x. road x i x + road j x x) i j v → v < top →
+      v + scale i + heaviest ≤ scale j
   unfolding Bound Within
   best-small i j v ij jn W b h = go (min-hit top v (w i j) (b .mid) (b .low + veil i i) (b .high + veil i j) (b .is) h)
     where

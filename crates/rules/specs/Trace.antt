@@ -11,12 +11,12 @@ use mir.Facts.{and-yes, yes-and, or-yes}
 use Rattle.rules.specs.Lists.{rise-le}
 use Rattle.rules.specs.Cheapest.{cheapest-unique}
 use Rattle.rules.specs.Cutting.{Pairs, Tree, leaf, link, First}
-use Rattle.rules.specs.Trees.{Line}
+use Rattle.rules.specs.Trees.{Node, Line}
 use Rattle.rules.specs.Table.{Road, road-rise, Way, Piece, Closes, Table, walk, grow, grown, lines}
 use Rattle.rules.specs.Uses.{isLine, uses}
 use Rattle.rules.specs.Valid.{same-set}
 use Rattle.rules.specs.Answer.{table-first}
-use Rattle.rules.specs.Traced.{On, Whole, Traced, on-within}
+use Rattle.rules.specs.Traced.{LineOfRoad, Whole, Traced, on-within}
 
 or-left : (p q : Bool) → T p → T (p || q)
 or-left true q h = tt
@@ -26,13 +26,8 @@ or-right : (p q : Bool) → T q → T (p || q)
 or-right true q h = tt
 or-right false q h = h
 
--- something stands on the line
-abbrev Node : Tree → Type 0
-Node leaf = ⊥
-Node (link b u r) = Unit {0}
-
 -- a tree along a road uses its lines, and what stands under them
-on-uses : (g : ℕ → ℕ → Tree) (a : ℕ) (s : List ℕ) (c d : ℕ) → On a s c d →
+on-uses : (g : ℕ → ℕ → Tree) (a : ℕ) (s : List ℕ) (c d : ℕ) → LineOfRoad a s c d →
     (Node (g c d) → T (uses a (walk g a s) c d)) × ((p q : ℕ) → T (uses c (g c d) p q) → T (uses a (walk g a s) p q))
 on-uses g a [] c d h = absurd h
 on-uses g a (b ∷ s) c d (inl e) =
@@ -70,13 +65,14 @@ module _ {cut : ℕ → ℕ → Type 0} {ok : List ℕ → Type 0} {w : ℕ → 
   choice-piece i j ij jm h c = table .range i j ij jm c .attained h .0
 
   -- its lines are narrower
-  pub line-narrow : (i j c d : ℕ) → suc i < j → j < suc m → may i j → Closes cut (suc m) i j → On i (choice i j) c d →
+  pub line-narrow : (i j c d : ℕ) → suc i < j → j < suc m → may i j → Closes cut (suc m) i j →
+      LineOfRoad i (choice i j) c d →
       (i ≤ c) × (c < d) × (d ≤ j) × (d + i < j + c) × Way cut may c d
   line-narrow i j c d ij jm h cl o =
       let p = choice-piece i j ij jm h cl in
       go (choice i j) p o
     where
-      go : (s : List ℕ) → Piece cut may ok i j s → On i s c d →
+      go : (s : List ℕ) → Piece cut may ok i j s → LineOfRoad i s c d →
           (i ≤ c) × (c < d) × (d ≤ j) × (d + i < j + c) × Way cut may c d
       go [] p o = absurd o
       go (b ∷ s) p (inl e) =
@@ -97,7 +93,8 @@ module _ {cut : ℕ → ℕ → Type 0} {ok : List ℕ → Type 0} {w : ℕ → 
     -- ---- what the tree uses was traced
     module _ (f c d : ℕ) (under : (a b : ℕ) → T (M a b) → T (uses a (grow choice f a b) c d) → T (M c d)) where
       along : (a j : ℕ) (s : List ℕ) → j < suc m → Road (Way cut may) a j s →
-          ((p q : ℕ) → On a s p q → suc p < q → T (M p q)) → T (uses a (walk (grow choice f) a s) c d) → T (M c d)
+          ((p q : ℕ) → LineOfRoad a s p q → suc p < q → T (M p q)) →
+          T (uses a (walk (grow choice f) a s) c d) → T (M c d)
       along a j [] jm r all h = absurd h
       along a j (b ∷ s) jm r all h =
           ⊎-elim first
@@ -170,7 +167,7 @@ module _ {cut : ℕ → ℕ → Type 0} {ok : List ℕ → Type 0} {w : ℕ → 
     Within c d = Sub c d × (Whole m c d ⊎ T (U c d))
 
     abbrev Parent : ℕ → ℕ → Type 0
-    Parent c d = (i : ℕ) × (j : ℕ) × T (M i j) × On i (choice i j) c d × (d + i < j + c)
+    Parent c d = (i : ℕ) × (j : ℕ) × T (M i j) × LineOfRoad i (choice i j) c d × (d + i < j + c)
 
     sub-whole : (c d : ℕ) → Whole m c d → Within c d
     sub-whole c d e = (rw (e .0, e .1) (λ p q z. z), inl e)

@@ -11,9 +11,9 @@ use Rattle.rules.specs.Lists.{rise-le}
 use Rattle.rules.specs.Table.{Road, road-rise, Closes}
 
 -- c d is a line of the road from a along s
-abbrev pub On : ℕ → List ℕ → ℕ → ℕ → Type 0
-On a [] c d = ⊥
-On a (b ∷ s) c d = ((c ≡ a) × (d ≡ b)) ⊎ On b s c d
+abbrev pub LineOfRoad : ℕ → List ℕ → ℕ → ℕ → Type 0
+LineOfRoad a [] c d = ⊥
+LineOfRoad a (b ∷ s) c d = ((c ≡ a) × (d ≡ b)) ⊎ LineOfRoad b s c d
 
 -- the line from the first of the corners 0 .. m to the last
 abbrev pub Whole : ℕ → ℕ → ℕ → Type 0
@@ -25,11 +25,11 @@ pub record Traced (cut may : ℕ → ℕ → Type 0) (choice : ℕ → ℕ → L
   pub whole : T (M 0 m)
   pub ways : (c d : ℕ) → T (M c d) → (suc c < d) × (d < suc m) × may c d × Closes cut (suc m) c d
   pub up : (c d : ℕ) → T (M c d) →
-      Whole m c d ⊎ ((i : ℕ) × (j : ℕ) × T (M i j) × On i (choice i j) c d × (d + i < j + c))
-  pub down : (i j c d : ℕ) → seen i j → T (M i j) → On i (choice i j) c d → suc c < d → T (M c d)
+      Whole m c d ⊎ ((i : ℕ) × (j : ℕ) × T (M i j) × LineOfRoad i (choice i j) c d × (d + i < j + c))
+  pub down : (i j c d : ℕ) → seen i j → T (M i j) → LineOfRoad i (choice i j) c d → suc c < d → T (M c d)
 
 -- ---- a road's lines lie between its ends
-pub on-within : (way : ℕ → ℕ → Type 0) (a j : ℕ) (s : List ℕ) → Road way a j s → (c d : ℕ) → On a s c d →
+pub on-within : (way : ℕ → ℕ → Type 0) (a j : ℕ) (s : List ℕ) → Road way a j s → (c d : ℕ) → LineOfRoad a s c d →
     (a ≤ c) × (c < d) × (d ≤ j) × way c d
 on-within way a j [] r c d h = absurd h
 on-within way a j (b ∷ s) r c d (inl e) =
