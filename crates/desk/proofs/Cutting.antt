@@ -22,7 +22,7 @@ use Rattle.telling.specs.declared.Told.{Told}
 use Rattle.telling.specs.declared.Told.the-variants as is
 use Rattle.desk.specs.Answer.{result}
 use Rattle.desk.specs.Stages.{Served, Cuts}
-use Rattle.desk.specs.Parts.{Refusal, Marked}
+use Rattle.desk.specs.Parts.{Refusal, FirstMarked}
 use Rattle.desk.specs.declared.Outcome.{Outcome}
 use Rattle.desk.proofs.Refuses.{refuses}
 
@@ -66,13 +66,13 @@ module _ {n : ℕ} {first second : List ℕ} where
         go (inr (q, inl f)) = f .0
         go (inr (q, inr f)) = absurd (omega (arith, f .1))
 
-    pub searched-marked : r ≡ searched.Found → Marked n first second pairs′
+    pub searched-marked : r ≡ searched.Found → FirstMarked n first second pairs′
     searched-marked e =
         let m = h .found (ap cutting.number e) in
         record { served = s; whole = omega (arith, m .size); is-first = m .is-first }
 
   -- ---- the telling, of a cutting that was found
-  module _ {pairs before : List ℕ} (m : Marked n first second pairs) (roomy : Roomy n (length before)) where
+  module _ {pairs before : List ℕ} (m : FirstMarked n first second pairs) (roomy : Roomy n (length before)) where
     telling-given : {x : Result} → telling.Telling n pairs first second before x →
         (x .number ≡ 0) × Carries (LowestOrZero (InBoth first second)) (pieces n (marked pairs)) before x
     telling-given = let s = m .served in served-told (record {

@@ -23,7 +23,7 @@ pub record Ready (first second : List ℤ) (room : ℕ) : Type 0 where
   pub roomy : Roomy (corners first) room
 
 -- the first smallest cutting of the cells stands in `pairs`
-pub record Marked (n : ℕ) (first second pairs : List ℕ) : Type 0 where
+pub record FirstMarked (n : ℕ) (first second pairs : List ℕ) : Type 0 where
   pub served : Served n first second
   pub whole : all-cells ≤ length pairs
   pub is-first : FirstBy (cells.plan first second) n (marked pairs)

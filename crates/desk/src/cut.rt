@@ -15,7 +15,7 @@ ghost use Rattle.limits.specs.Limits.{all-cells, Roomy};
 ghost use Rattle.drawing.specs.Tells.{Tells};
 ghost use Rattle.desk.specs.Answer.{result};
 ghost use Rattle.desk.specs.Stages.{Served, Cuts};
-ghost use Rattle.desk.specs.Parts.{Marked};
+ghost use Rattle.desk.specs.Parts.{FirstMarked};
 
 // Whether n and both arrays of cells are within the limits.
 fn served(n: usize, first: &[u8], second: &[u8]) -> bool
@@ -43,7 +43,7 @@ fn never() -> Outcome
 
 // The cutting that stands in `pairs` is told.
 fn tell(n: usize, pairs: &[u8], first: &[u8], second: &[u8], room: &mut [u8]) -> Outcome
-    requires { ⌜ Marked n (now first) (now second) (now pairs) × Roomy n (length (now room)) ⌝ }
+    requires { ⌜ FirstMarked n (now first) (now second) (now pairs) × Roomy n (length (now room)) ⌝ }
     ensures { λ r. ⌜
         Cuts n (now (first .entry)) (now (second .entry)) (now (room .entry)) (result r (now (room .exit))) ⌝ }
 {

@@ -47,7 +47,7 @@ pub record Done
   pub most : len ≤ length chunk + most-beyond
 
 -- too little is lent, and nothing is touched
-pub record Refused (f g : List ℤ) (chunk before : List ℕ) (f′ g′ : List ℤ) (after : List ℕ) : Type 0 where
+pub record TooLittle (f g : List ℤ) (chunk before : List ℕ) (f′ g′ : List ℤ) (after : List ℕ) : Type 0 where
   pub little : ¬ Lent f g chunk before
   pub first-kept : f′ ≡ f
   pub second-kept : g′ ≡ g
@@ -55,7 +55,7 @@ pub record Refused (f g : List ℤ) (chunk before : List ℕ) (f′ g′ : List 
 
 abbrev pub Runs : Session → List ℤ → List ℤ → List ℕ → List ℕ → List ℤ → List ℤ → List ℕ → Ran → Type 0
 Runs s f g chunk before f′ g′ after (ran.Done s′ len) = Done s f g chunk before f′ g′ after s′ len
-Runs s f g chunk before f′ g′ after ran.Short = Refused f g chunk before f′ g′ after
+Runs s f g chunk before f′ g′ after ran.Short = TooLittle f g chunk before f′ g′ after
 
 -- ---- `finish`
 pub record Ended (s : Session) (before after : List ℕ) (s′ : Session) (len : ℕ) : Type 0 where
