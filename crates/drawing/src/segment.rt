@@ -31,7 +31,10 @@ pub fn same(a: Place, b: Place) -> bool
     requires { ⌜ Close (point a) × Close (point b) ⌝ }
     ensures { λ r. ⌜ Tells r (point a ≡ point b) ⌝ }
 {
-    if a.x == b.x { a.y == b.y } else { false }
+    if a.x != b.x {
+        return false;
+    }
+    a.y == b.y
 }
 
 // Two turns of one line: both strictly left of it, or both strictly right. No branch asks for the sign of one of
@@ -54,14 +57,15 @@ pub fn touch(a: Place, b: Place, c: Place, d: Place) -> bool
     ensures { λ r. ⌜ Tells r (Touch (point a) (point b) (point c) (point d)) ⌝ }
 {
     if dot(c, a, b) <= 0 {
-        true
-    } else if dot(d, a, b) <= 0 {
-        true
-    } else if dot(a, c, d) <= 0 {
-        true
-    } else {
-        dot(b, c, d) <= 0
+        return true;
     }
+    if dot(d, a, b) <= 0 {
+        return true;
+    }
+    if dot(a, c, d) <= 0 {
+        return true;
+    }
+    dot(b, c, d) <= 0
 }
 
 // The segments a b and c d share a point.
@@ -72,14 +76,12 @@ pub fn share(a: Place, b: Place, c: Place, d: Place) -> bool
     let s = turn(a, b, c);
     let t = turn(a, b, d);
     if one_side(s, t) {
-        false
-    } else if one_side(turn(c, d, a), turn(c, d, b)) {
-        false
-    } else if s == t {
-        touch(a, b, c, d)
-    } else {
-        true
+        return false;
     }
+    if one_side(turn(c, d, a), turn(c, d, b)) {
+        return false;
+    }
+    if s == t { touch(a, b, c, d) } else { true }
 }
 
 // The segments e a and e c share only e.
