@@ -59,6 +59,10 @@ fn the_run_ends() {
         (frame(FIRST, &S), "The frames end after a first drawing."),
         (frame(SECOND, &S), "Line 3 of the frames is out of turn."),
         (b"100\n".to_vec(), "Line 3 of the frames is of another form."),
+        (
+            b"<svg>\n".to_vec(),
+            "Line 3 of the frames looks like SVG: desk frames makes frames of it.",
+        ),
     ] {
         let told = told(&[pair(&S, &S), rest].concat());
         assert_eq!(told, format!("{square}{stop}\nEF: the program ended the run here.\n"));

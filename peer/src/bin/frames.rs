@@ -16,9 +16,12 @@ desk frames [--scale K] [--anticlockwise] < drawing > frames
 
 fn main() -> ExitCode {
     let words: Vec<String> = std::env::args().skip(1).collect();
-    let Some(wishes) = wishes(&words) else {
-        eprintln!("{USAGE}");
-        return ExitCode::from(2);
+    let wishes = match wishes(&words) {
+        Ok(wishes) => wishes,
+        Err(reason) => {
+            eprintln!("desk: {reason}\n{USAGE}");
+            return ExitCode::from(2);
+        }
     };
     match frames(wishes) {
         Ok(()) => ExitCode::SUCCESS,
@@ -29,25 +32,32 @@ fn main() -> ExitCode {
     }
 }
 
-/// What the words ask for, if they do so rightly, each at most once.
-fn wishes(words: &[String]) -> Option<Wishes> {
+/// What the words ask for, each at most once, or what is wrong with them.
+fn wishes(words: &[String]) -> Result<Wishes, String> {
     let (mut scale, mut anticlockwise) = (None, None);
     let mut words = words.iter().map(String::as_str);
     while let Some(word) = words.next() {
         let again = match word {
-            "--scale" => scale.replace(steps(words.next()?)?).is_some(),
+            "--scale" => scale.replace(steps(words.next().unwrap_or_default())?).is_some(),
             "--anticlockwise" => anticlockwise.replace(true).is_some(),
-            _ => true,
+            "--help" => return Err("what it takes:".into()),
+            _ => {
+                return Err(format!(
+                    "'{word}' is not understood; the drawing comes on standard input"
+                ))
+            }
         };
         if again {
-            return None;
+            return Err(format!("{word} stands twice"));
         }
     }
-    Some(Wishes { scale: scale.unwrap_or(1), anticlockwise: anticlockwise.unwrap_or(false) })
+    Ok(Wishes { scale: scale.unwrap_or(1), anticlockwise: anticlockwise.unwrap_or(false) })
 }
 
-fn steps(word: &str) -> Option<u32> {
-    word.parse().ok().filter(|steps| (1..=MOST_SCALE).contains(steps))
+fn steps(word: &str) -> Result<u32, String> {
+    let steps = word.parse().ok().filter(|steps| (1..=MOST_SCALE).contains(steps));
+    steps
+        .ok_or_else(|| format!("--scale takes a whole number from 1 to {MOST_SCALE}, not '{word}'"))
 }
 
 fn frames(wishes: Wishes) -> Result<(), String> {

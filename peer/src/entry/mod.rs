@@ -67,7 +67,9 @@ fn entered(input: &str, wishes: Wishes) -> Result<Entered, Refusal> {
     remarks.extend(rounding.told(input));
     let [first, second] = drawings.each_ref().map(Vec::len);
     if first != second {
-        let reason = format!("the first drawing has {first} corners and the second {second}");
+        let reason = format!(
+            "the first drawing has {first} corners and the second {second}: both need equally many"
+        );
         return refuse(starts[1], reason);
     }
     remarks.extend(way::turn(&mut drawings, starts, wishes.anticlockwise)?);
@@ -78,6 +80,8 @@ fn entered(input: &str, wishes: Wishes) -> Result<Entered, Refusal> {
 fn outlines(input: &str) -> Result<([Outline; 2], Vec<String>), Refusal> {
     if input.trim_start().starts_with('<') {
         svg::outlines(input)
+    } else if input.lines().next().is_some_and(is_frame) {
+        refuse(0, "a frame already: hand it to desk itself, or to desk tell or show")
     } else {
         text::outlines(input).map(|outlines| (outlines, Vec::new()))
     }
@@ -102,4 +106,11 @@ fn frames([first, second]: &[Vec<Corner>; 2]) -> Vec<u8> {
         drawing.iter().flat_map(|corner| [corner.x as i32, corner.y as i32]).collect()
     };
     [frame(FIRST, &list(first)), frame(SECOND, &list(second))].concat()
+}
+
+/// Whether a line is what this tool would make, and no coordinates: digits of at least a triangle.
+fn is_frame(line: &str) -> bool {
+    line.starts_with("10")
+        && line.len() >= 4 + 12 * 3
+        && line.bytes().all(|c| c.is_ascii_hexdigit())
 }

@@ -67,9 +67,10 @@ fn check_letter(letter: char, at: usize, first: bool, cursor: &Cursor) -> Result
         'M' => refuse(at, "a path begins again with M: each drawing is an element of its own"),
         'L' | 'H' | 'V' | 'Z' if !first => Ok(()),
         'L' | 'H' | 'V' | 'Z' => refuse(at, format!("a path begins with M, not with {letter}")),
-        'C' | 'S' | 'Q' | 'T' | 'A' => {
-            refuse(at, format!("a curve ({letter}): only straight lines can be taken"))
-        }
+        'C' | 'S' | 'Q' | 'T' | 'A' => refuse(
+            at,
+            format!("a curve ({letter}): only straight lines can be taken, so flatten it"),
+        ),
         _ => refuse(at, format!("{} is no command of a path", cursor.quoted())),
     }
 }

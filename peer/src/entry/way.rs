@@ -31,9 +31,7 @@ pub fn turn(
         }
         _ => {
             let k = usize::from(areas[1] < 0);
-            let reason =
-                format!("{} alone runs clockwise: both are turned round, or none", NAMES[k]);
-            refuse(starts[k], reason)
+            refuse(starts[k], alone(k))
         }
     }
 }
@@ -44,8 +42,12 @@ fn clockwise(areas: [i128; 2]) -> Option<String> {
         [true, true] => {
             Some("both drawings run clockwise: --anticlockwise turns them round".into())
         }
-        [true, false] => Some(format!("{} alone runs clockwise", NAMES[0])),
-        [false, true] => Some(format!("{} alone runs clockwise", NAMES[1])),
+        [true, false] => Some(alone(0)),
+        [false, true] => Some(alone(1)),
         [false, false] => None,
     }
+}
+
+fn alone(k: usize) -> String {
+    format!("{} alone runs clockwise: list its points the other way round", NAMES[k])
 }

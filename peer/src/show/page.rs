@@ -77,18 +77,23 @@ impl Page {
         let ends = [point(EDGE, self.down), point(WIDTH - EDGE, self.down)];
         self.body += &svg::segments("rule", &[ends]);
         self.line("heading", 30.0, heading);
-        self.told.push(format!("{heading}."));
+        self.tell(heading);
     }
 
     /// Says in words what the outcome is.
     fn say(&mut self, class: &str, words: &str) {
         self.lines(class, 21.0, words);
-        self.told.push(words.to_string());
+        self.tell(words);
     }
 
     fn note(&mut self, words: &str) {
         self.lines("note", 18.0, words);
-        self.told.push(words.to_string());
+        self.tell(words);
+    }
+
+    /// Adds a sentence to what is told to those who do not see the page.
+    fn tell(&mut self, words: &str) {
+        self.told.push(format!("{}.", words.trim_end_matches('.')));
     }
 
     fn head(&mut self, frames: &Frames, answers: &[Answer], known: bool) {

@@ -24,6 +24,10 @@ pub fn frames(input: &[u8]) -> Frames {
         let place = format!("Line {} of the frames", grouped(k as i64 + 1));
         let turn = if found.lone.is_some() { SECOND } else { FIRST };
         match frame(line) {
+            None if line.trim_ascii_start().starts_with(b"<") => {
+                found.stop =
+                    Some(format!("{place} looks like SVG: desk frames makes frames of it."));
+            }
             None => found.stop = Some(format!("{place} is of another form.")),
             Some((tag, _)) if tag != turn => {
                 found.stop = Some(format!("{place} is out of turn."));

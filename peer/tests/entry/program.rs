@@ -43,19 +43,24 @@ fn nothing_comes_out_where_it_is_refused() {
 
 #[test]
 fn other_words_are_answered_with_the_usage() {
-    for words in [
-        &["--help"][..],
-        &["drawing.svg"],
-        &["--scale"],
-        &["--scale", "0"],
-        &["--scale", "1000001"],
-        &["--scale", "1.5"],
-        &["--scale", "2", "--scale", "2"],
-        &["--anticlockwise", "--anticlockwise"],
+    let scale = |word| format!("--scale takes a whole number from 1 to 1000000, not '{word}'");
+    for (words, reason) in [
+        (&["--help"][..], "what it takes:".into()),
+        (
+            &["drawing.svg"],
+            "'drawing.svg' is not understood; the drawing comes on standard input".into(),
+        ),
+        (&["--scale"], scale("")),
+        (&["--scale", "0"], scale("0")),
+        (&["--scale", "1000001"], scale("1000001")),
+        (&["--scale", "1.5"], scale("1.5")),
+        (&["--scale", "2", "--scale", "2"], "--scale stands twice".to_string()),
+        (&["--anticlockwise", "--anticlockwise"], "--anticlockwise stands twice".into()),
     ] {
         let (status, output, said) = run(words, TEXT);
         assert_eq!((status, output), (Some(2), String::new()), "{words:?}");
-        assert!(said.starts_with("desk frames [--scale K] [--anticlockwise] < drawing > frames\n"));
+        let usage = "desk frames [--scale K] [--anticlockwise] < drawing > frames\n";
+        assert!(said.starts_with(&format!("desk: {reason}\n{usage}")), "{said}");
     }
 }
 

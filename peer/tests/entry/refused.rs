@@ -14,8 +14,14 @@ fn paths_that_are_no_closed_outlines_of_lines() {
         ("", "line 2: the path is not closed: it does not end with Z"),
         ("M0 0 L4 0\n0 -3", "line 3: the path is not closed: it does not end with Z"),
         ("M0 0 4 0 0 -3 0 0", "line 2: the path is not closed: it does not end with Z"),
-        ("M0 0 L4 0\n\nC 1 1 2 2 3 3 Z", "line 4: a curve (C): only straight lines can be taken"),
-        ("M0 0 4 0 a1 1 0 0 0 3 3z", "line 2: a curve (a): only straight lines can be taken"),
+        (
+            "M0 0 L4 0\n\nC 1 1 2 2 3 3 Z",
+            "line 4: a curve (C): only straight lines can be taken, so flatten it",
+        ),
+        (
+            "M0 0 4 0 a1 1 0 0 0 3 3z",
+            "line 2: a curve (a): only straight lines can be taken, so flatten it",
+        ),
         (
             "M0 0 4 0 0-3z\nM9 9 8 8 9 8z",
             "line 3: a path goes on after Z: each drawing is an element of its own",
@@ -178,7 +184,7 @@ fn texts_that_are_no_coordinates() {
         ("0 0\n4 \u{2212}3\n", "line 2: '\u{2212}3' is no number"),
         (
             "1004000000000000000004000000000004000004000000000004\n",
-            "line 1: '10040000000000000000...' is too large",
+            "line 1: a frame already: hand it to desk itself, or to desk tell or show",
         ),
     ] {
         assert_eq!(refused(input, PLAIN), reason, "{input}");
@@ -199,7 +205,12 @@ fn drawings_of_other_counts() {
     for (first, second, reason) in [
         (few, few, format!("line 1: the first drawing has {few} {allowed}")),
         (3, many, format!("line 5: the second drawing has {many} {allowed}")),
-        (3, 4, "line 5: the first drawing has 3 corners and the second 4".into()),
+        (
+            3,
+            4,
+            "line 5: the first drawing has 3 corners and the second 4: both need equally many"
+                .into(),
+        ),
     ] {
         assert_eq!(refused(&format!("{}\n{}", bowl(first), bowl(second)), PLAIN), reason);
     }

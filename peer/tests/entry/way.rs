@@ -39,7 +39,7 @@ fn two_anticlockwise_drawings_stay() {
 
 #[test]
 fn one_is_not_turned_alone() {
-    let reason = "alone runs clockwise: both are turned round, or none";
+    let reason = "alone runs clockwise: list its points the other way round";
     assert_eq!(refused(&both(RIGHT, LEFT), TURNED), format!("line 1: the first drawing {reason}"));
     assert_eq!(refused(&both(LEFT, RIGHT), TURNED), format!("line 5: the second drawing {reason}"));
     let flat = "line 5: the second drawing has no area and runs no way round";
@@ -56,8 +56,18 @@ fn without_the_wish_all_stay_and_it_is_said() {
             [BACKWARDS, BACKWARDS],
             Some("both drawings run clockwise: --anticlockwise turns them round"),
         ),
-        (RIGHT, LEFT, [BACKWARDS, TRIANGLE], Some("the first drawing alone runs clockwise")),
-        (LEFT, RIGHT, [TRIANGLE, BACKWARDS], Some("the second drawing alone runs clockwise")),
+        (
+            RIGHT,
+            LEFT,
+            [BACKWARDS, TRIANGLE],
+            Some("the first drawing alone runs clockwise: list its points the other way round"),
+        ),
+        (
+            LEFT,
+            RIGHT,
+            [TRIANGLE, BACKWARDS],
+            Some("the second drawing alone runs clockwise: list its points the other way round"),
+        ),
         (LEFT, FLAT, [TRIANGLE, [0, 0, 1, 0, 2, 0]], None),
     ] {
         let found = entered(&both(first, second), PLAIN);
