@@ -16,7 +16,7 @@ other w i x m h = getD-set-other w i m x 0 (λ e. omega (arith, h, e))
 
 -- one corner's six words are written
 module _ {d : List ℤ} {i : ℕ} (w : List ℕ) {l r a o s v : ℕ}
-    (k : Knows d i (record { sides = record { left = l; right = r; along = a; low = o; west = s }; need = v }))
+    (k : Knows d i (record { left = l; right = r; along = a; low = o; west = s; need = v }))
     (room : 6 * i + 5 < length w) where
   abbrev one : List ℕ
   one = set w (6 * i) l

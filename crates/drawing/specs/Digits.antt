@@ -17,8 +17,8 @@ use Rattle.drawing.specs.Round.{next-prev, prev-next, prev-below}
 use Rattle.drawing.specs.Segments.{Apart, apart-off}
 use Rattle.drawing.specs.Extent.{reach-low, reach-west}
 use Rattle.drawing.specs.Looking.{at-own}
-use Rattle.drawing.specs.Known.{SideTurn, Left, Right, OnLine, Along, Open, Hides, Looks, Reaches, Lies}
-use Rattle.drawing.specs.declared.masks.Against.{Against}
+use Rattle.drawing.specs.Known.{SideTurn, Left, Right, OnLine, Along, Open, Hides, Looks, Reaches, Knows}
+use Rattle.drawing.specs.declared.masks.Known.{Known}
 
 -- what is left over of one mask without two others
 folded : (a b : ℕ) → (a % 2 + b) % 2 ≡ (a + b) % 2
@@ -182,7 +182,7 @@ module _ (d : List ℤ) where
             omega (arith, e, left-over f (2 ^ h) (2 ^ i) k, marked flat k b (a .0), z .0, z .1)
 
   -- ---- to be looked at are those with i and j apart that reach far enough, and those along which both lie
-  module _ {i j : ℕ} {a b : Against} (f : Lies d i a) (g : Lies d j b) (few : corners d ≤ 64) {low west : ℕ}
+  module _ {i j : ℕ} {a b : Known} (f : Knows d i a) (g : Knows d j b) (few : corners d ≤ 64) {low west : ℕ}
       (lows : Reaches (corner d i .y) (a .low) (corner d j .y) (b .low) low)
       (wests : Reaches (corner d i .x) (a .west) (corner d j .x) (b .west) west) where
     abbrev apart : ℕ → ℕ

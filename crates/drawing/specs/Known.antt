@@ -14,7 +14,6 @@ use Rattle.whole.specs.Masks.{Marks}
 use Rattle.drawing.specs.Drawing.{corner, corners, after, prev, Turn, EndsAt, Angle, Shared}
 use Rattle.drawing.specs.Segments.{Apart, Dot}
 use Rattle.drawing.specs.declared.faced.Bends.{Bends}
-use Rattle.drawing.specs.declared.masks.Against.{Against}
 use Rattle.drawing.specs.declared.masks.Known.{Known}
 use Rattle.drawing.specs.declared.seeing.Met.{Met}
 use Rattle.drawing.specs.declared.seeing.Met.the-variants as is
@@ -102,17 +101,14 @@ abbrev pub Reaches : ℤ → ℕ → ℤ → ℕ → ℕ → Type 0
 Reaches p u q w m = (k : ℕ) → k < 64 → (p ≡ q) ⊎ ((bit u k ≡ 1) ⊎ (bit w k ≡ 1)) → bit m k ≡ 1
 
 -- ---- a corner's words
--- where corner i lies against every side
-pub record Lies (d : List ℤ) (i : ℕ) (a : Against) : Type 0 where
-  pub left-of : Marks (corners d) (a .left) (Left d i)
-  pub right-of : Marks (corners d) (a .right) (Right d i)
-  pub along-of : Marks (corners d) (a .along) (Along d i)
-  pub low-of : Marks (corners d) (a .low) (Low d i)
-  pub west-of : Marks (corners d) (a .west) (West d i)
-  pub left-fits : a .left < 2 ^ corners d
-
+-- where corner i lies against every side, and what it needs
 pub record Knows (d : List ℤ) (i : ℕ) (k : Known) : Type 0 where
-  pub lies : Lies d i (k .sides)
+  pub left-of : Marks (corners d) (k .left) (Left d i)
+  pub right-of : Marks (corners d) (k .right) (Right d i)
+  pub along-of : Marks (corners d) (k .along) (Along d i)
+  pub low-of : Marks (corners d) (k .low) (Low d i)
+  pub west-of : Marks (corners d) (k .west) (West d i)
+  pub left-fits : k .left < 2 ^ corners d
   pub needs : Needs d i (k .need)
 
 -- the words in a list, six for each corner
@@ -121,13 +117,11 @@ all-words = 6 * most-corners
 
 abbrev pub word : List ℕ → ℕ → Known
 word w i = record {
-  sides = record {
-    left = getD w (6 * i) 0;
-    right = getD w (6 * i + 1) 0;
-    along = getD w (6 * i + 2) 0;
-    low = getD w (6 * i + 3) 0;
-    west = getD w (6 * i + 4) 0;
-  };
+  left = getD w (6 * i) 0;
+  right = getD w (6 * i + 1) 0;
+  along = getD w (6 * i + 2) 0;
+  low = getD w (6 * i + 3) 0;
+  west = getD w (6 * i + 4) 0;
   need = getD w (6 * i + 5) 0;
 }
 

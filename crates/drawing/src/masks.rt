@@ -6,7 +6,7 @@ ghost use Rattle.whole.specs.Masks.{Marks};
 ghost use Rattle.drawing.specs.Drawing.{corners};
 ghost use Rattle.drawing.specs.Sight.{Limits};
 ghost use Rattle.drawing.specs.Tells.{Tells};
-ghost use Rattle.drawing.specs.Known.{Along, Within, OnSide, Needs, Lies, Knows};
+ghost use Rattle.drawing.specs.Known.{Along, Within, OnSide, Needs, Knows};
 ghost use Rattle.drawing.specs.Away.{Far, Away, Cross};
 use crate::corners::corner;
 use crate::corners::next;
@@ -16,39 +16,23 @@ use crate::segment::dot;
 use crate::segment::turn;
 
 // The sides that a corner lies strictly left of, those that it lies strictly right of, those whose line it lies on
-// without being an end of the side; and those that have an end strictly lower than the corner, or further west.
-pub struct Against {
+// without being an end of the side; those that have an end strictly lower than the corner, or further west; and how
+// many of the two sides at the corner another has to lie left of, to be inside the angle.
+pub struct Known {
     pub left: u64,
     pub right: u64,
     pub along: u64,
     pub low: u64,
     pub west: u64,
-}
-
-// And how many of the two sides at the corner another has to lie left of, to be inside the angle.
-pub struct Known {
-    pub sides: Against,
     pub need: u64,
-}
-
-pub fn know(xy: &[i32], i: usize) -> Known
-    requires { ⌜ Limits (now xy) × (i < corners (now xy)) ⌝ }
-    ensures { λ r. ⌜ Knows (now (xy .entry)) i r ⌝ }
-{
-    let sides = every_side(xy, i);
-    let need = need(xy, sides.along, i);
-    Known {
-        sides: sides,
-        need: need,
-    }
 }
 
 // The digits are made from the last side down, so that the far end of a side is the corner that was looked at just
 // before. Of all sides those are right that are neither left nor flat, whose line the corner is on; and of the flat
 // ones the two that end at the corner are taken away.
-fn every_side(xy: &[i32], i: usize) -> Against
+pub fn know(xy: &[i32], i: usize) -> Known
     requires { ⌜ Limits (now xy) × (i < corners (now xy)) ⌝ }
-    ensures { λ r. ⌜ Lies (now (xy .entry)) i r ⌝ }
+    ensures { λ r. ⌜ Knows (now (xy .entry)) i r ⌝ }
 {
     let n = xy.len() / 2;
     let mut all = 0;
@@ -71,12 +55,15 @@ fn every_side(xy: &[i32], i: usize) -> Against
     let h = prev(xy, i);
     let before = 1 << h;
     let after = 1 << i;
-    Against {
+    let along = flat ^ before ^ after;
+    let need = need(xy, along, i);
+    Known {
         left: left,
         right: all ^ left ^ flat,
-        along: flat ^ before ^ after,
+        along: along,
         low: low,
         west: west,
+        need: need,
     }
 }
 

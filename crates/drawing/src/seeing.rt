@@ -4,12 +4,11 @@ ghost use Rattle.whole.specs.Masks.{Marks};
 ghost use Rattle.drawing.specs.Drawing.{corners};
 ghost use Rattle.drawing.specs.Sight.{Limits};
 ghost use Rattle.drawing.specs.Tells.{Tells};
-ghost use Rattle.drawing.specs.Known.{Left, Open, NoneHides, Looks, Reaches, Meets, Facing, Needs, Lies, Knows};
+ghost use Rattle.drawing.specs.Known.{Left, Open, NoneHides, Looks, Reaches, Meets, Facing, Needs, Knows};
 ghost use Rattle.drawing.specs.Parts.{TellsSight};
 use crate::corners::corner;
 use crate::corners::next;
 use crate::corners::prev;
-use crate::masks::Against;
 use crate::masks::Known;
 use crate::segment::one_side;
 use crate::segment::touch;
@@ -30,18 +29,18 @@ pub fn sees(xy: &[i32], i: usize, a: Known, j: usize, b: Known) -> bool
     requires { ⌜ Knows (now xy) i a × Knows (now xy) j b ⌝ }
     ensures { λ r. ⌜ TellsSight (now (xy .entry)) i j r ⌝ }
 {
-    if !angle(xy, i, a.need, j, b.sides.left) {
+    if !angle(xy, i, a.need, j, b.left) {
         return false;
     }
-    let sides = to_look_at(xy, i, a.sides, j, b.sides);
+    let sides = to_look_at(xy, i, a, j, b);
     clear(xy, sides, i, j)
 }
 
 // The open sides are those whose line has i and j strictly apart, or has both on it. One with the two apart that
 // meets the segment ij has an end lower than the higher of them and one west of the eastern: the others are left out.
-fn to_look_at(xy: &[i32], i: usize, a: Against, j: usize, b: Against) -> u64
+fn to_look_at(xy: &[i32], i: usize, a: Known, j: usize, b: Known) -> u64
     requires { ⌜ Limits (now xy) × (i < corners (now xy)) × (j < corners (now xy)) ⌝ }
-    requires { ⌜ Lies (now xy) i a × Lies (now xy) j b ⌝ }
+    requires { ⌜ Knows (now xy) i a × Knows (now xy) j b ⌝ }
     ensures { λ r. ⌜ Looks (now (xy .entry)) i j r ⌝ }
 {
     let p = corner(xy, i);

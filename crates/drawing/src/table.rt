@@ -11,7 +11,6 @@ ghost use Rattle.drawing.specs.Known.{all-words, word, Facing, FacedBy, 
 use crate::corners::next;
 use crate::faced::angles;
 use crate::faced::faced;
-use crate::masks::Against;
 use crate::masks::Known;
 use crate::masks::know;
 use crate::seeing::sees;
@@ -53,28 +52,27 @@ fn learn_one(xy: &[i32], words: &mut [u64], i: usize)
     ensures { λ _. ⌜ Learnt (now (xy .entry)) i (now (words .entry)) (now (words .exit)) ⌝ }
 {
     let known = know(xy, i);
-    words[6 * i] = known.sides.left;
-    words[6 * i + 1] = known.sides.right;
-    words[6 * i + 2] = known.sides.along;
-    words[6 * i + 3] = known.sides.low;
-    words[6 * i + 4] = known.sides.west;
-    words[6 * i + 5] = known.need;
+    let at = 6 * i;
+    words[at] = known.left;
+    words[at + 1] = known.right;
+    words[at + 2] = known.along;
+    words[at + 3] = known.low;
+    words[at + 4] = known.west;
+    words[at + 5] = known.need;
 }
 
 fn recall(words: &[u64], i: usize) -> Known
     requires { ⌜ (all-words ≤ length (now words)) × (i < most-corners) ⌝ }
     ensures { λ r. ⌜ r ≡ word (now (words .entry)) i ⌝ }
 {
-    let sides = Against {
-        left: words[6 * i],
-        right: words[6 * i + 1],
-        along: words[6 * i + 2],
-        low: words[6 * i + 3],
-        west: words[6 * i + 4],
-    };
+    let at = 6 * i;
     Known {
-        sides: sides,
-        need: words[6 * i + 5],
+        left: words[at],
+        right: words[at + 1],
+        along: words[at + 2],
+        low: words[at + 3],
+        west: words[at + 4],
+        need: words[at + 5],
     }
 }
 
@@ -117,8 +115,7 @@ fn rows(xy: &[i32], words: &[u64], cells: &mut [u8])
     let n = xy.len() / 2;
     let at = angles(words, n);
     for i in 0..n {
-        let a = recall(words, i);
-        let f = faced(a.sides.left, at, n);
+        let f = faced(words[6 * i], at, n);
         row(xy, words, f, cells, i);
     }
 }

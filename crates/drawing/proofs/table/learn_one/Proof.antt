@@ -9,71 +9,56 @@ use Rattle.drawing.proofs.table.learn_one.Tie as tie
 know-requires : tie.Need-know-requires
 know-requires c κs = search needs
 
+mul-at : tie.Need-mul-at
+mul-at c = search needs
+
 mul-words : tie.Need-mul-words
 mul-words c = search needs
-
-mul-words-2 : tie.Need-mul-words-2
-mul-words-2 c = search needs
 
 slice-write-words : tie.Need-slice-write-words
 slice-write-words c = search needs
 
-mul-words-3 : tie.Need-mul-words-3
-mul-words-3 c = search needs
-
 add-words : tie.Need-add-words
 add-words c = search needs
 
-mul-words-4 : tie.Need-mul-words-4
-mul-words-4 c = search needs
+mul-words-2 : tie.Need-mul-words-2
+mul-words-2 c = search needs
 
 slice-write-words-2 : tie.Need-slice-write-words-2
 slice-write-words-2 c = simp length-set (omega arith)
 
-mul-words-5 : tie.Need-mul-words-5
-mul-words-5 c = search needs
-
 add-words-2 : tie.Need-add-words-2
 add-words-2 c = search needs
 
-mul-words-6 : tie.Need-mul-words-6
-mul-words-6 c = search needs
+mul-words-3 : tie.Need-mul-words-3
+mul-words-3 c = search needs
 
 slice-write-words-3 : tie.Need-slice-write-words-3
 slice-write-words-3 c = simp length-set (omega arith)
 
-mul-words-7 : tie.Need-mul-words-7
-mul-words-7 c = search needs
-
 add-words-3 : tie.Need-add-words-3
 add-words-3 c = search needs
 
-mul-words-8 : tie.Need-mul-words-8
-mul-words-8 c = search needs
+mul-words-4 : tie.Need-mul-words-4
+mul-words-4 c = search needs
 
 slice-write-words-4 : tie.Need-slice-write-words-4
 slice-write-words-4 c = simp length-set (omega arith)
 
-mul-words-9 : tie.Need-mul-words-9
-mul-words-9 c = search needs
-
 add-words-4 : tie.Need-add-words-4
 add-words-4 c = search needs
 
-mul-words-10 : tie.Need-mul-words-10
-mul-words-10 c = search needs
+mul-words-5 : tie.Need-mul-words-5
+mul-words-5 c = search needs
 
 slice-write-words-5 : tie.Need-slice-write-words-5
 slice-write-words-5 c = simp length-set (omega arith)
 
-mul-words-11 : tie.Need-mul-words-11
-mul-words-11 c = search needs
-
 add-words-5 : tie.Need-add-words-5
 add-words-5 c = search needs
 
-mul-words-12 : tie.Need-mul-words-12
-mul-words-12 c = search needs
+mul-words-6 : tie.Need-mul-words-6
+mul-words-6 c = search needs
 
 slice-write-words-6 : tie.Need-slice-write-words-6
 slice-write-words-6 c = simp length-set (omega arith)
@@ -92,28 +77,23 @@ learn-one-spec =
     tie.close
     (tie.spec
     know-requires
+    mul-at
     mul-words
-    mul-words-2
     slice-write-words
-    mul-words-3
     add-words
-    mul-words-4
+    mul-words-2
     slice-write-words-2
-    mul-words-5
     add-words-2
-    mul-words-6
+    mul-words-3
     slice-write-words-3
-    mul-words-7
     add-words-3
-    mul-words-8
+    mul-words-4
     slice-write-words-4
-    mul-words-9
     add-words-4
-    mul-words-10
+    mul-words-5
     slice-write-words-5
-    mul-words-11
     add-words-5
-    mul-words-12
+    mul-words-6
     slice-write-words-6
     same-length
     returns)

@@ -1,7 +1,8 @@
--- `drawing::masks::every_side` meets its contract: after t steps the masks tell of the sides from n - t on.
+-- `drawing::masks::know` meets its contract: after t steps the masks tell of the sides from n - t on.
 use mathlib.Core.Path.{_≡_, refl, sym, ap, _∙_, subst}
-use Prim.Native.Nat.{_+_, _-_, _^_, _≤_, _<_}
+use Prim.Native.Nat.{_+_, _*_, _-_, _%_, _^_, _≤_, _<_}
 use native.Mathlib.Omega.{arith}
+use lib.Bits.{bitXor}
 use lib.Dec.{eqb}
 use lib.IntN.{pos}
 use lib.Signed.{ltZ}
@@ -9,16 +10,16 @@ use mir.Syntax.{w64}
 use mir.Val.{ofZ}
 use borrow.Author.Needs.{needs}
 use Rattle.whole.specs.Bits.{shifted-one}
-use Rattle.whole.specs.Masks.{Made, made-none, made-more, made-room, made-all}
+use Rattle.whole.specs.Masks.{Marks, Made, made-none, made-more, made-room, made-all}
 use Rattle.drawing.specs.Drawing.{corners, after}
-use Rattle.drawing.specs.Known.{Left, OnLine, Low, West}
+use Rattle.drawing.specs.Known.{Left, OnLine, Along, Low, West}
 use Rattle.drawing.specs.Round.{next-prev, next-down}
 use Rattle.drawing.specs.Away.{Away, cross-turn, less, less-back}
 use Rattle.drawing.specs.Digits.{right-marks, along-marks}
 use Rattle.drawing.proofs.Machine.{back, by-lt, by-nought, held, x-away, y-away}
 use Rattle.drawing.proofs.Machine.{digit, either, either-small, digit-fits, double-fits}
-use Rattle.drawing.proofs.masks.every_side.Statement.{statement}
-use Rattle.drawing.proofs.masks.every_side.Tie as tie
+use Rattle.drawing.proofs.masks.know.Statement.{statement}
+use Rattle.drawing.proofs.masks.know.Tie as tie
 
 abbrev Inv-loop : tie.InvT-loop
 Inv-loop xy i n all₀ left₀ flat₀ low₀ west₀ end₀ t₀ all left flat low west end t =
@@ -179,29 +180,50 @@ shl-before c = sides c .0
 shl-after : tie.Need-shl-after Inv-loop μ-loop
 shl-after c = sides c .1
 
+-- all sides have been looked at
+every : (c : tie.After-prev Inv-loop μ-loop) →
+    c .before .before .loop .t ≡ corners (c .before .before .before .before .args .xy .now)
+every c = omega (arith, c .before .before .loop .inv .0, c .before .loop-test .left)
+
+flat : (c : tie.After-prev Inv-loop μ-loop) →
+    let s = c .before .before .before .before .args in
+    Marks (corners (s .xy .now)) (c .before .before .loop .flat) (OnLine (s .xy .now) (s .i))
+flat c = let e = every c in made-all (rw e at (c .before .before .loop .inv .3))
+
+along : (c : tie.After-prev Inv-loop μ-loop) →
+    let s = c .before .before .before .before .args in
+    let before = 1 * 2 ^ c .prev .result % 2 ^ 64 in
+    let after = 1 * 2 ^ s .i % 2 ^ 64 in
+    Marks (corners (s .xy .now)) (bitXor (bitXor (c .before .before .loop .flat) before) after)
+    (Along (s .xy .now) (s .i))
+along c =
+    let s = c .before .before .before .before in
+    let before = shifted-one (c .prev .result) (sides c .0) ∙ ap (λ y. 2 ^ y) (c .prev .ensures .is) in
+    rw (before, shifted-one (s .args .i) (sides c .1))
+    (along-marks (s .args .xy .now) (s .args .i) (s .pre .1) (omega (arith, s .pre .0 .shaped .enough)) (flat c))
+
+need-requires : tie.Need-need-requires Inv-loop μ-loop
+need-requires c κs = let h = c .before .before .before .before .pre in (h .0, h .1, along c)
+
 returns : tie.Need-returns Inv-loop μ-loop
 returns c =
-    let s = c .before .before .before .before in
-    let d = s .args .xy .now in
-    let i = s .args .i in
-    let loop = c .before .before .loop in
-    let every : loop .t ≡ corners d = omega (arith, loop .inv .0, c .before .loop-test .left) in
-    let left = made-all (rw every at (loop .inv .2)) in
-    let flat = made-all (rw every at (loop .inv .3)) in
-    let before = shifted-one (c .prev .result) (sides c .0) ∙ ap (λ y. 2 ^ y) (c .prev .ensures .is) in
+    let k = c .before in
+    let s = k .before .before .before .before in
+    let loop = k .before .before .loop in
+    let e = every k in
+    let left = made-all (rw e at (loop .inv .2)) in
     record {
       left-of = left;
-      right-of = right-marks d i (made-all (rw every at (loop .inv .1))) left flat;
-      along-of =
-          rw (before, shifted-one i (sides c .1))
-          (along-marks d i (s .pre .1) (omega (arith, s .pre .0 .shaped .enough)) flat);
-      low-of = made-all (rw every at (loop .inv .4));
-      west-of = made-all (rw every at (loop .inv .5));
-      left-fits = let m = rw every at (loop .inv .2) in m .fits;
+      right-of = right-marks (s .args .xy .now) (s .args .i) (made-all (rw e at (loop .inv .1))) left (flat k);
+      along-of = along k;
+      low-of = made-all (rw e at (loop .inv .4));
+      west-of = made-all (rw e at (loop .inv .5));
+      left-fits = let m = rw e at (loop .inv .2) in m .fits;
+      needs = c .need .ensures;
     }
 
-pub every-side-spec : {M : Type 1} → statement M
-every-side-spec =
+pub know-spec : {M : Type 1} → statement M
+know-spec =
     tie.close
     (tie.spec
     Inv-loop
@@ -234,4 +256,5 @@ every-side-spec =
     prev-requires
     shl-before
     shl-after
+    need-requires
     returns)
