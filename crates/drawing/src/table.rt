@@ -6,7 +6,8 @@ ghost use lib.ListN.{length};
 ghost use Rattle.limits.specs.Limits.{most-corners, all-cells};
 ghost use Rattle.drawing.specs.Drawing.{corners};
 ghost use Rattle.drawing.specs.Sight.{Limits, Seen};
-ghost use Rattle.drawing.specs.Parts.{None, Marked, RowBlank, NeighboursAdded, RowAdded, Ends, Decided, both};
+ghost use Rattle.drawing.specs.Parts.{None, Marked, RowBlank, Decided, both};
+ghost use Rattle.drawing.specs.Parts.{NeighboursAdded, RowAdded, RowsFilled};
 ghost use Rattle.drawing.specs.Known.{all-words, word, Facing, FacedBy, Knows, Learnt, Remembered};
 use crate::corners::next;
 use crate::faced::angles;
@@ -110,7 +111,7 @@ fn neighbours(xy: &[i32], cells: &mut [u8])
 
 fn rows(xy: &[i32], words: &[u64], cells: &mut [u8])
     requires { ⌜ Limits (now xy) × Remembered (now xy) (now words) × (all-cells ≤ length (now cells)) ⌝ }
-    ensures { λ _. ⌜ Ends (now (xy .entry)) (now (cells .entry)) (now (cells .exit)) ⌝ }
+    ensures { λ _. ⌜ RowsFilled (now (xy .entry)) (now (cells .entry)) (now (cells .exit)) ⌝ }
 {
     let n = xy.len() / 2;
     let at = angles(words, n);
