@@ -1,5 +1,7 @@
 -- signed numbers of the machine
 mod Machine
+-- what the corners know, one after the other
+mod Learning
 -- ---- the table of sight as it fills
 -- rows of noughts
 mod Blank
@@ -11,5 +13,3 @@ mod Pairs
 mod Neighbours
 -- a row, and all rows
 mod Rows
--- the words of what the corners know, as they are written
-mod Words

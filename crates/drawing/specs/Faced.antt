@@ -16,6 +16,7 @@ use Rattle.drawing.specs.Round.{next-prev, prev-below}
 use Rattle.drawing.specs.Against.{angle-left, angle-other, angle-both, angle-either}
 use Rattle.drawing.specs.Known.{SideTurn, Left, Facing, Needs, need-of, FacedBy, Around, Faced, AllKnown}
 use Rattle.drawing.specs.declared.faced.Bends.{Bends}
+use Rattle.drawing.specs.declared.masks.Known.{Known}
 
 module _ (d : List ℤ) where
   -- ---- the angle by two digits of j's mask
@@ -117,7 +118,7 @@ module _ (t o l p k : ℕ) where
       least : (l p : ℕ) → max (min (min 0 l) p) (min 0 (max l p)) ≡ 0
       least l p = omega arith
 
-module _ (d : List ℤ) (i : ℕ) (w : List ℕ) {left r : ℕ} {b : Bends} (f : Faced (corners d) left b r)
+module _ (d : List ℤ) (i : ℕ) (w : List Known) {left r : ℕ} {b : Bends} (f : Faced (corners d) left b r)
     (known : AllKnown d (corners d) w) (marks : Marks (corners d) left (Left d i))
     (two : Marks (corners d) (b .two) (λ j. need-of w j ≡ 2))
     (one : Marks (corners d) (b .one) (λ j. need-of w j ≡ 1)) where

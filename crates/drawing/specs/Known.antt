@@ -4,11 +4,10 @@
 use mathlib.Core.Path.{_≡_}
 use mathlib.Core.Logic.{_⊎_}
 use mathlib.Core.List.{List}
-use Prim.Native.Nat.{ℕ, _+_, _*_, _^_, _≤_, _<_, min, max}
+use Prim.Native.Nat.{ℕ, _^_, _<_, min, max}
 use lib.IntN.{ℤ, pos}
-use lib.ListN.{length, getD}
+use lib.ListN.{getD}
 use lib.Signed.{_≤ℤ_, _<ℤ_}
-use Rattle.limits.specs.Limits.{most-corners}
 use Rattle.whole.specs.Bits.{bit}
 use Rattle.whole.specs.Masks.{Marks}
 use Rattle.drawing.specs.Drawing.{corner, corners, after, prev, Turn, EndsAt, Angle, Shared}
@@ -100,7 +99,7 @@ module _ (d : List ℤ) where
 abbrev pub Reaches : ℤ → ℕ → ℤ → ℕ → ℕ → Type 0
 Reaches p u q w m = (k : ℕ) → k < 64 → (p ≡ q) ⊎ ((bit u k ≡ 1) ⊎ (bit w k ≡ 1)) → bit m k ≡ 1
 
--- ---- a corner's words
+-- ---- what a corner knows
 -- where corner i lies against every side, and what it needs
 pub record Knows (d : List ℤ) (i : ℕ) (k : Known) : Type 0 where
   pub left-of : Marks (corners d) (k .left) (Left d i)
@@ -111,37 +110,19 @@ pub record Knows (d : List ℤ) (i : ℕ) (k : Known) : Type 0 where
   pub left-fits : k .left < 2 ^ corners d
   pub needs : Needs d i (k .need)
 
--- the words in a list, six for each corner
-abbrev pub all-words : ℕ
-all-words = 6 * most-corners
+-- what each corner knows, in a list, of which more may stand than there are corners
+abbrev pub nothing : Known
+nothing = record { left = 0; right = 0; along = 0; low = 0; west = 0; need = 0 }
 
-abbrev pub word : List ℕ → ℕ → Known
-word w i = record {
-  left = getD w (6 * i) 0;
-  right = getD w (6 * i + 1) 0;
-  along = getD w (6 * i + 2) 0;
-  low = getD w (6 * i + 3) 0;
-  west = getD w (6 * i + 4) 0;
-  need = getD w (6 * i + 5) 0;
-}
+abbrev pub known-of : List Known → ℕ → Known
+known-of w i = getD w i nothing
 
-abbrev pub need-of : List ℕ → ℕ → ℕ
-need-of w j = word w j .need
+abbrev pub need-of : List Known → ℕ → ℕ
+need-of w j = known-of w j .need
 
--- they hold what the corners before t know
-abbrev pub AllKnown : List ℤ → ℕ → List ℕ → Type 0
-AllKnown d t w = (i : ℕ) → i < t → Knows d i (word w i)
-
--- there is room for the words of every corner, and they hold what each knows
-pub record Remembered (d : List ℤ) (w : List ℕ) : Type 0 where
-  pub room : all-words ≤ length w
-  pub known : AllKnown d (corners d) w
-
--- corner i's words are written, and those before them are kept
-pub record Learnt (d : List ℤ) (i : ℕ) (before after : List ℕ) : Type 0 where
-  pub knows : Knows d i (word after i)
-  pub kept : (k : ℕ) → k < 6 * i → getD after k 0 ≡ getD before k 0
-  pub size : length after ≡ length before
+-- it holds what the corners before t know
+abbrev pub AllKnown : List ℤ → ℕ → List Known → Type 0
+AllKnown d t w = (i : ℕ) → i < t → Knows d i (known-of w i)
 
 -- ---- masks with a digit for each corner
 -- the corners that have corner i inside the angle

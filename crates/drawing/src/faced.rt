@@ -1,10 +1,11 @@
 // Who has a corner inside the angle there, for all corners at once: masks with a digit for each corner.
 ghost use mathlib.Core.Path.{_≡_};
 ghost use Prim.Native.Nat.{_^_, _≤_, _<_};
-ghost use lib.ListN.{length};
 ghost use Rattle.limits.specs.Limits.{fewest-corners, most-corners};
 ghost use Rattle.whole.specs.Masks.{Marks};
-ghost use Rattle.drawing.specs.Known.{all-words, need-of, Around, Faced};
+ghost use Rattle.drawing.specs.Known.{need-of, Around, Faced};
+use crate::masks::Known;
+use limits::MOST_CORNERS;
 
 // The corners that need two of their sides to have another to the left, and those that need one.
 pub struct Bends {
@@ -12,16 +13,16 @@ pub struct Bends {
     pub one: u64,
 }
 
-pub fn angles(words: &[u64], n: usize) -> Bends
-    requires { ⌜ (n ≤ most-corners) × (all-words ≤ length (now words)) ⌝ }
-    ensures { λ r. ⌜ Marks n (r .two) (λ j. need-of (now (words .entry)) j ≡ 2) ⌝ }
-    ensures { λ r. ⌜ Marks n (r .one) (λ j. need-of (now (words .entry)) j ≡ 1) ⌝ }
+pub fn angles(known: [Known; MOST_CORNERS], n: usize) -> Bends
+    requires { ⌜ n ≤ most-corners ⌝ }
+    ensures { λ r. ⌜ Marks n (r .two) (λ j. need-of known j ≡ 2) ⌝ }
+    ensures { λ r. ⌜ Marks n (r .one) (λ j. need-of known j ≡ 1) ⌝ }
 {
     let mut two = 0;
     let mut one = 0;
     for t in 0..n {
         let j = n - (t + 1);
-        let need = words[6 * j + 5];
+        let need = known[j].need;
         two = two * 2 + (need == 2) as u64;
         one = one * 2 + (need == 1) as u64;
     }

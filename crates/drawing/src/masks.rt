@@ -6,7 +6,7 @@ ghost use Rattle.whole.specs.Masks.{Marks};
 ghost use Rattle.drawing.specs.Drawing.{corners};
 ghost use Rattle.drawing.specs.Sight.{Limits};
 ghost use Rattle.drawing.specs.Tells.{Tells};
-ghost use Rattle.drawing.specs.Known.{Along, Within, OnSide, Needs, Knows};
+ghost use Rattle.drawing.specs.Known.{Along, Within, OnSide, Needs, Knows, AllKnown};
 ghost use Rattle.drawing.specs.Away.{Far, Away, Cross};
 use crate::corners::corner;
 use crate::corners::next;
@@ -14,6 +14,7 @@ use crate::corners::prev;
 use crate::segment::Place;
 use crate::segment::dot;
 use crate::segment::turn;
+use limits::MOST_CORNERS;
 
 // The sides that a corner lies strictly left of, those that it lies strictly right of, those whose line it lies on
 // without being an end of the side; those that have an end strictly lower than the corner, or further west; and how
@@ -27,10 +28,30 @@ pub struct Known {
     pub need: u64,
 }
 
+// What each corner knows, in their order.
+pub fn learn(xy: &[i32]) -> [Known; MOST_CORNERS]
+    requires { ⌜ Limits (now xy) ⌝ }
+    ensures { λ r. ⌜ AllKnown (now (xy .entry)) (corners (now (xy .entry))) r ⌝ }
+{
+    let nothing = Known {
+        left: 0,
+        right: 0,
+        along: 0,
+        low: 0,
+        west: 0,
+        need: 0,
+    };
+    let mut known = [nothing; MOST_CORNERS];
+    for i in 0..xy.len() / 2 {
+        known[i] = know(xy, i);
+    }
+    known
+}
+
 // The digits are made from the last side down, so that the far end of a side is the corner that was looked at just
 // before. Of all sides those are right that are neither left nor flat, whose line the corner is on; and of the flat
 // ones the two that end at the corner are taken away.
-pub fn know(xy: &[i32], i: usize) -> Known
+fn know(xy: &[i32], i: usize) -> Known
     requires { ⌜ Limits (now xy) × (i < corners (now xy)) ⌝ }
     ensures { λ r. ⌜ Knows (now (xy .entry)) i r ⌝ }
 {

@@ -1,7 +1,7 @@
--- `drawing::table::fill_by` meets its contract.
+-- `drawing::table::fill` meets its contract: blank, then the neighbours, then all rows.
 use borrow.Author.Needs.{needs}
-use Rattle.drawing.proofs.table.fill_by.Statement.{statement}
-use Rattle.drawing.proofs.table.fill_by.Tie as tie
+use Rattle.drawing.proofs.table.fill.Statement.{statement}
+use Rattle.drawing.proofs.table.fill.Tie as tie
 
 learn-requires : tie.Need-learn-requires
 learn-requires c κs = search needs
@@ -18,23 +18,12 @@ rows-requires c κs = search needs
 same-length : tie.Need-same-length
 same-length c = search needs
 
-same-length-2 : tie.Need-same-length-2
-same-length-2 c = search needs
-
 returns : tie.Need-returns
 returns c =
-    let k = c .before .before .before .before .before .before .before in
+    let k = c .before .before .before .before .before .before in
     c .before .before .rows .ensures _
     (k .neighbours .ensures .grown _ (k .before .before .before .before .blank .ensures))
 
-pub fill-by-spec : {M : Type 1} → statement M
-fill-by-spec =
-    tie.close
-    (tie.spec
-    learn-requires
-    blank-requires
-    neighbours-requires
-    rows-requires
-    same-length
-    same-length-2
-    returns)
+pub fill-spec : {M : Type 1} → statement M
+fill-spec =
+    tie.close (tie.spec learn-requires blank-requires neighbours-requires rows-requires same-length returns)
