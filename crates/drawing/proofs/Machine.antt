@@ -18,7 +18,8 @@ use Rattle.whole.specs.Bounds.{Val, fit, par, loc, less, times}
 use Rattle.limits.specs.Limits.{furthest}
 use Rattle.drawing.specs.Drawing.{Point, Turn}
 use Rattle.drawing.specs.Segments.{Dot}
-use Rattle.drawing.specs.Quick.{Touch}
+use Rattle.drawing.specs.Meeting.{Reached, Meets}
+use Rattle.drawing.specs.declared.segment.Met.{Met}
 use Rattle.drawing.specs.Tells.{Tells, as-well, eq-tells}
 use Rattle.drawing.specs.Parts.{Close}
 use Rattle.drawing.specs.Away.{Far}
@@ -80,8 +81,12 @@ module _ {a b c p q r : Point} (e : a ≡ p) (f : b ≡ q) (g : c ≡ r) where
   pub dot-same : Dot a b c ≡ Dot p q r
   dot-same = λ i. Dot (e i) (f i) (g i)
 
-pub touch-as : {a b c d p q r s : Point} → a ≡ p → b ≡ q → c ≡ r → d ≡ s → Touch a b c d → Touch p q r s
-touch-as e f g h t = subst (λ x. x) (λ i. Touch (e i) (f i) (g i) (h i)) t
+module _ {a b c d p q r s : Point} (e : a ≡ p) (f : b ≡ q) (g : c ≡ r) (h : d ≡ s) where
+  pub reached-as : Reached p q r s → Reached a b c d
+  reached-as x = subst (λ z. z) (sym (λ i. Reached (e i) (f i) (g i) (h i))) x
+
+  pub meets-as : (w : Met) → Meets a b c d w → Meets p q r s w
+  meets-as w x = subst (λ z. z) (λ i. Meets (e i) (f i) (g i) (h i) w) x
 
 -- ---- a test as a digit of a mask
 pub digit-small : (b : Bool) → boolByte b < 2

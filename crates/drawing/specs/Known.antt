@@ -12,10 +12,10 @@ use Rattle.whole.specs.Bits.{bit}
 use Rattle.whole.specs.Masks.{Marks}
 use Rattle.drawing.specs.Drawing.{corner, corners, after, prev, Turn, EndsAt, Angle, Shared}
 use Rattle.drawing.specs.Segments.{Apart, Dot}
+use Rattle.drawing.specs.Meeting.{Meets}
 use Rattle.drawing.specs.declared.faced.Bends.{Bends}
 use Rattle.drawing.specs.declared.masks.Known.{Known}
-use Rattle.drawing.specs.declared.seeing.Met.{Met}
-use Rattle.drawing.specs.declared.seeing.Met.the-variants as is
+use Rattle.drawing.specs.declared.segment.Met.{Met}
 
 module _ (d : List ℤ) where
   -- ---- corner i against side k
@@ -84,16 +84,9 @@ module _ (d : List ℤ) where
     pub is-open : (k : ℕ) → bit m k ≡ 1 → (k < corners d) × Open i j k
     pub all : (k : ℕ) → k < corners d → Open i j k → Hides i j k → bit m k ≡ 1
 
-  -- the ends of side k are strictly apart about the line ij
-  abbrev pub Across : ℕ → ℕ → ℕ → Type 0
-  Across i j k =
-      Apart (Turn (corner d i) (corner d j) (corner d k)) (Turn (corner d i) (corner d j) (corner d (after d k)))
-
-  -- how ij meets an open side: not at all; across it; or else it touches the side, at an end or along it
-  abbrev pub Meets : ℕ → ℕ → ℕ → Met → Type 0
-  Meets i j k is.Missed = ¬ Hides i j k
-  Meets i j k is.Touched = Hides i j k × (¬ Across i j k)
-  Meets i j k is.Crossed = Hides i j k × Across i j k
+  -- how ij meets side k
+  abbrev pub MeetsSide : ℕ → ℕ → ℕ → Met → Type 0
+  MeetsSide i j k w = Meets (corner d i) (corner d j) (corner d k) (corner d (after d k)) w
 
 -- of two corners on one axis: the marks of either are marks of m, and every side is one, where neither is further
 abbrev pub Reaches : ℤ → ℕ → ℤ → ℕ → ℕ → Type 0

@@ -5,13 +5,14 @@ pub mod Sight
 -- ---- what the private functions promise
 pub mod Parts
 pub mod Known
--- ---- laws: truth values that tell, segments, a point against a segment, a side from one corner, how far a side
--- reaches that meets a segment, the corners' numbers, the sides of a simple drawing, sight, how a line of sight meets
--- a side, sight from the open sides, and what the digits of masks tell of sides and of angles
+-- ---- laws: truth values that tell, segments, how one meets another, a point against a segment, a side from one
+-- corner, how far a side reaches that meets a segment, the corners' numbers, the sides of a simple drawing, sight,
+-- sight from the open sides, and what the digits of masks tell of sides and of angles
 pub mod Tells
 mod Spell
 pub mod Segments
 pub mod Quick
+pub mod Meeting
 pub mod Ends
 pub mod Against
 pub mod Away
@@ -19,7 +20,6 @@ pub mod Extent
 pub mod Round
 pub mod Sides
 pub mod Seeing
-pub mod Meeting
 pub mod Looking
 pub mod Digits
 pub mod Faced

@@ -6,13 +6,14 @@ use mathlib.Core.List.{List}
 use Prim.Native.Nat.{ℕ, _<_}
 use native.Mathlib.Decide.{ℕ-discrete}
 use lib.IntN.{ℤ, pos}
-use lib.Signed.{_≤ℤ_, _<ℤ_, <ℤ-irrefl}
+use lib.Signed.{_≤ℤ_, _<ℤ_, <ℤ-irrefl, clashℤ}
 use Rattle.whole.specs.Ring.{neg, ring, ring1}
-use Rattle.whole.specs.Order.{Positive, Sign, plus, nought, minus, sign, below, ≤ℤ-total}
+use Rattle.whole.specs.Order.{Positive, Sign, plus, nought, minus, sign, below, <ℤ-le, ≤ℤ-total}
 use Rattle.drawing.specs.Drawing.{corner, corners, prev, after, Turn, EndsAt, Beside, Clear, Sees}
 use Rattle.drawing.specs.Parts.{Passes}
-use Rattle.drawing.specs.Segments.{exchanged, turned-first, one-side, Dot}
+use Rattle.drawing.specs.Segments.{exchanged, turned-first, OneSide, one-side, Dot}
 use Rattle.drawing.specs.Quick.{on-line}
+use Rattle.drawing.specs.Meeting.{Reached}
 use Rattle.drawing.specs.Ends.{OnlyEnd, only-sound, only-complete}
 use Rattle.drawing.specs.Spell.{A, B, C, O, env4, TurnE, DotE, I}
 use Rattle.drawing.specs.Round.{prev-next}
@@ -42,6 +43,19 @@ module _ (d : List ℤ) where
   open-ends i j k (inl (inl h)) = (left-no-end i k (h .0), right-no-end j k (h .1))
   open-ends i j k (inl (inr h)) = (right-no-end i k (h .0), left-no-end j k (h .1))
   open-ends i j k (inr h) = (h .0 .1, h .1 .1)
+
+  -- and its line does not have both corners on one side
+  pub open-reached : (i j k : ℕ) → Open d i j k →
+      Reached (corner d i) (corner d j) (corner d k) (corner d (after d k))
+  open-reached i j k o = record { not-aside = none o }
+    where
+      none : Open d i j k → ¬ OneSide (SideTurn d i k) (SideTurn d j k)
+      none (inl (inl h)) (inl s) = clashℤ (s .1) (<ℤ-le (h .1))
+      none (inl (inl h)) (inr s) = clashℤ (s .0) (<ℤ-le (h .0))
+      none (inl (inr h)) (inl s) = clashℤ (s .0) (<ℤ-le (h .0))
+      none (inl (inr h)) (inr s) = clashℤ (s .1) (<ℤ-le (h .1))
+      none (inr h) (inl s) = <ℤ-irrefl (subst Positive (h .0 .0) (s .0))
+      none (inr h) (inr s) = <ℤ-irrefl (subst (λ z. z <ℤ pos 0) (h .0 .0) (s .0))
 
   -- ---- a side that is not open and ends at neither corner shares nothing with ij, unless it touches one of them
   off-side : (i k : ℕ) → k < corners d → ¬ OnSide d i → ¬ EndsAt d k i → SideTurn d i k ≡ pos 0 →

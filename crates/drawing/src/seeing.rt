@@ -4,22 +4,14 @@ ghost use Rattle.whole.specs.Masks.{Marks};
 ghost use Rattle.drawing.specs.Drawing.{corners};
 ghost use Rattle.drawing.specs.Sight.{Limits};
 ghost use Rattle.drawing.specs.Tells.{Tells};
-ghost use Rattle.drawing.specs.Known.{Left, Open, NoneHides, Looks, Reaches, Meets, Facing, Needs, Knows};
+ghost use Rattle.drawing.specs.Known.{Left, Open, NoneHides, Looks, Reaches, MeetsSide, Facing, Needs, Knows};
 ghost use Rattle.drawing.specs.Parts.{TellsSight};
 use crate::corners::corner;
 use crate::corners::next;
 use crate::corners::prev;
 use crate::masks::Known;
-use crate::segment::one_side;
-use crate::segment::touch;
-use crate::segment::turn;
-
-// How a line of sight meets a side.
-pub enum Met {
-    Missed,
-    Touched,
-    Crossed,
-}
+use crate::segment::Met;
+use crate::segment::meet;
 
 // Corner i is inside the angle at j. The cheapest test comes first: the other angle, and only then the sides. Inside
 // both angles the sides at i and j are clear; of the others a few are looked at. Of neighbours, which see each other
@@ -82,7 +74,7 @@ fn clear(xy: &[i32], sides: u64, i: usize, j: usize) -> bool
     let mut rest = sides;
     while rest != 0 {
         let k = u64::trailing_zeros(rest) as usize;
-        match meet(xy, i, j, k) {
+        match meet_side(xy, i, j, k) {
             Met::Missed => {
                 rest = rest & (rest - 1);
             }
@@ -97,31 +89,16 @@ fn clear(xy: &[i32], sides: u64, i: usize, j: usize) -> bool
     true
 }
 
-// How the segment ij meets the open side k. That i and j are not on one side of its line is known.
-fn meet(xy: &[i32], i: usize, j: usize, k: usize) -> Met
+// How the segment ij meets the open side k.
+fn meet_side(xy: &[i32], i: usize, j: usize, k: usize) -> Met
     requires { ⌜ Limits (now xy) × (i < corners (now xy)) × (j < corners (now xy)) × (k < corners (now xy)) ⌝ }
     requires { ⌜ Open (now xy) i j k ⌝ }
-    ensures { λ r. ⌜ Meets (now (xy .entry)) i j k r ⌝ }
+    ensures { λ r. ⌜ MeetsSide (now (xy .entry)) i j k r ⌝ }
 {
     let m = next(xy, k);
     let a = corner(xy, i);
     let b = corner(xy, j);
     let c = corner(xy, k);
     let d = corner(xy, m);
-    let s = turn(a, b, c);
-    let t = turn(a, b, d);
-    if one_side(s, t) {
-        return Met::Missed;
-    }
-    if s == t {
-        return if touch(a, b, c, d) {
-            Met::Touched
-        } else {
-            Met::Missed
-        };
-    }
-    if s == 0 {
-        return Met::Touched;
-    }
-    if t == 0 { Met::Touched } else { Met::Crossed }
+    meet(a, b, c, d)
 }

@@ -4,11 +4,19 @@ ghost use Rattle.drawing.specs.Drawing.{Turn, Shared, SharedOnlyAt};
 ghost use Rattle.drawing.specs.Tells.{Tells};
 ghost use Rattle.drawing.specs.Segments.{Dot, OneSide};
 ghost use Rattle.drawing.specs.Quick.{Touch};
+ghost use Rattle.drawing.specs.Meeting.{Reached, Meets};
 ghost use Rattle.drawing.specs.Parts.{point, Close};
 
 pub struct Place {
     pub x: i64,
     pub y: i64,
+}
+
+// How a segment meets another: not at all; at an end of the other, or along it; across it.
+pub enum Met {
+    Missed,
+    Touched,
+    Crossed,
 }
 
 // 01's Turn(a, b, c): the coordinates' limit keeps every product and difference within i64.
@@ -39,7 +47,7 @@ pub fn same(a: Place, b: Place) -> bool
 
 // Two turns of one line: both strictly left of it, or both strictly right. No branch asks for the sign of one of
 // them, which nothing foretells.
-pub fn one_side(s: i64, t: i64) -> bool
+fn one_side(s: i64, t: i64) -> bool
     ensures { λ r. ⌜ Tells r (OneSide s t) ⌝ }
 {
     if s == 0 {
@@ -52,7 +60,7 @@ pub fn one_side(s: i64, t: i64) -> bool
 }
 
 // Of four points on one line, an end of one segment lies on the other.
-pub fn touch(a: Place, b: Place, c: Place, d: Place) -> bool
+fn touch(a: Place, b: Place, c: Place, d: Place) -> bool
     requires { ⌜ Close (point a) × Close (point b) × Close (point c) × Close (point d) ⌝ }
     ensures { λ r. ⌜ Tells r (Touch (point a) (point b) (point c) (point d)) ⌝ }
 {
@@ -68,20 +76,43 @@ pub fn touch(a: Place, b: Place, c: Place, d: Place) -> bool
     dot(b, c, d) <= 0
 }
 
+// How the segment a b meets c d. That the line of c d does not have a and b strictly on one side is known.
+pub fn meet(a: Place, b: Place, c: Place, d: Place) -> Met
+    requires { ⌜ Close (point a) × Close (point b) × Close (point c) × Close (point d) ⌝ }
+    requires { ⌜ Reached (point a) (point b) (point c) (point d) ⌝ }
+    ensures { λ r. ⌜ Meets (point a) (point b) (point c) (point d) r ⌝ }
+{
+    let s = turn(a, b, c);
+    let t = turn(a, b, d);
+    if one_side(s, t) {
+        return Met::Missed;
+    }
+    if s == t {
+        return if touch(a, b, c, d) {
+            Met::Touched
+        } else {
+            Met::Missed
+        };
+    }
+    if s == 0 {
+        return Met::Touched;
+    }
+    if t == 0 { Met::Touched } else { Met::Crossed }
+}
+
 // The segments a b and c d share a point.
 pub fn share(a: Place, b: Place, c: Place, d: Place) -> bool
     requires { ⌜ Close (point a) × Close (point b) × Close (point c) × Close (point d) ⌝ }
     ensures { λ r. ⌜ Tells r (Shared (point a) (point b) (point c) (point d)) ⌝ }
 {
-    let s = turn(a, b, c);
-    let t = turn(a, b, d);
-    if one_side(s, t) {
+    if one_side(turn(a, b, c), turn(a, b, d)) {
         return false;
     }
-    if one_side(turn(c, d, a), turn(c, d, b)) {
-        return false;
+    match meet(c, d, a, b) {
+        Met::Missed => false,
+        Met::Touched => true,
+        Met::Crossed => true,
     }
-    if s == t { touch(a, b, c, d) } else { true }
 }
 
 // The segments e a and e c share only e.
