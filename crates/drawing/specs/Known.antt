@@ -103,7 +103,7 @@ pub record Knows (d : List ℤ) (i : ℕ) (k : Known) : Type 0 where
   pub left-fits : k .left < 2 ^ corners d
   pub needs : Needs d i (k .need)
 
--- what each corner knows, in a list, of which more may stand than there are corners
+-- a list has what each corner knows, in their order; behind the last corner stands anything
 abbrev pub nothing : Known
 nothing = record { left = 0; right = 0; along = 0; low = 0; west = 0; need = 0 }
 

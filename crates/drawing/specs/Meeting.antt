@@ -1,5 +1,5 @@
--- How the segment ab meets cd, told by the turns of c and d from ab: the line of cd is known not to have a and b on one
--- side.
+-- How the segment ab meets cd, told by the turns of c and d from ab, where the line of cd is known not to have a and b
+-- on one side.
 use mathlib.Core.Path.{_≡_, sym, subst}
 use mathlib.Core.Logic.{_⊎_, inl, inr}
 use lib.IntN.{ℤ, pos}
@@ -15,8 +15,8 @@ use Rattle.drawing.specs.declared.segment.Met.the-variants as is
 pub record Reached (a b c d : Point) : Type 0 where
   pub not-aside : ¬ OneSide (Turn c d a) (Turn c d b)
 
--- ab and cd share no point; they share one, and c and d are strictly apart about the line ab; or else ab touches cd, at
--- an end or along it
+-- ab and cd share no point; they share one, and c and d are strictly apart about the line ab; or else ab touches cd,
+-- at an end or along it
 abbrev pub Meets : Point → Point → Point → Point → Met → Type 0
 Meets a b c d is.Missed = ¬ Shared a b c d
 Meets a b c d is.Touched = Shared a b c d × (¬ Apart (Turn a b c) (Turn a b d))

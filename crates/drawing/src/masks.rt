@@ -1,5 +1,5 @@
 // Where a corner lies against the sides, as masks: digit k of a mask tells of side k. That takes n turns for each of
-// the n corners; whatever a pair of corners asks of the sides is then a few operations on the words of the two.
+// the n corners; whatever a pair of corners asks of the sides is then a few operations on what the two know.
 ghost use mathlib.Core.Path.{_≡_};
 ghost use Prim.Native.Nat.{_<_};
 ghost use Rattle.whole.specs.Masks.{Marks};

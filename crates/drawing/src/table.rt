@@ -1,4 +1,4 @@
-// The cells of sight: what each corner knows of the sides is asked first; then those pairs i < j are decided in which i
+// The cells of sight: what each corner knows of the sides comes first; then those pairs i < j are decided in which i
 // is inside the angle at j, and each that sees each other fills two cells, since sight is mutual.
 ghost use mathlib.Core.Path.{_≡_};
 ghost use Prim.Native.Nat.{_<_, _≤_};
@@ -6,8 +6,7 @@ ghost use lib.ListN.{length};
 ghost use Rattle.limits.specs.Limits.{most-corners, all-cells};
 ghost use Rattle.drawing.specs.Drawing.{corners};
 ghost use Rattle.drawing.specs.Sight.{Limits, Seen};
-ghost use Rattle.drawing.specs.Parts.{None, Marked, RowBlank, Decided, both};
-ghost use Rattle.drawing.specs.Parts.{NeighboursAdded, RowsFilled};
+ghost use Rattle.drawing.specs.Parts.{None, Marked, RowBlank, NeighboursAdded, RowsFilled, Decided, both};
 ghost use Rattle.drawing.specs.Known.{Facing, Knows, AllKnown};
 use crate::corners::next;
 use crate::faced::angles;
