@@ -72,6 +72,19 @@ fn sound(list: &[i32], out_of_range: u8) -> Result<Vec<Corner>, u8> {
     }
 }
 
+/// The pieces that an answer's bytes tell.
+pub fn told(bytes: &[u8]) -> Vec<Piece> {
+    let mut pieces = Vec::new();
+    let mut rest = bytes;
+    while let [k, centre, after @ ..] = rest {
+        let (corners, later) = after.split_at(usize::from(*k));
+        let corners = corners.iter().map(|&corner| usize::from(corner)).collect();
+        pieces.push(Piece { centre: usize::from(*centre), corners });
+        rest = later;
+    }
+    pieces
+}
+
 /// Writes each piece as k, the centre, the k corners.
 fn given(pieces: &[Piece], room: &mut [u8]) -> Outcome {
     let mut bytes = 0;

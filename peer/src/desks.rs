@@ -3,6 +3,7 @@
 use crate::cutting;
 use crate::desk::{self, needed_room, refused, Outcome};
 use crate::drawing::{self, Judged, Sight, FEWEST_CORNERS, MOST_CORNERS};
+use crate::marks::{self, Flat, Mark};
 use crate::pairs::calls::{self, Call};
 use crate::pairs::dice::Dice;
 
@@ -25,6 +26,9 @@ pub trait Desk {
     /// Number 0 or 9 from the sight of two drawings, where a cell that is not 0 says that i sees
     /// j; or 1, where n, the cells or the room are not served.
     fn cut(&self, n: usize, first: &[u8], second: &[u8], room: &mut [u8]) -> Outcome;
+
+    /// 02, K1: where a mark lands.
+    fn carry(&self, first: &[i32], second: &[i32], mark: Mark, room: &mut [u8]) -> Flat;
 }
 
 pub struct Peer;
@@ -73,6 +77,10 @@ impl Desk for Peer {
             [first, second].map(|cells| Sight::from_cells(n, |i, j| cells[i * ROW + j] != 0));
         desk::cut_by(cutting::first_smallest, &first, &second, room)
     }
+
+    fn carry(&self, first: &[i32], second: &[i32], mark: Mark, room: &mut [u8]) -> Flat {
+        marks::carry(first, second, mark, room).into()
+    }
 }
 
 /// Whether a list has an even length and as many corners as a drawing may have.
@@ -92,6 +100,7 @@ enum Said {
     Outcome(Outcome),
     Number(u8),
     Served(bool),
+    Carried(Flat),
 }
 
 /// Makes the call.
@@ -104,6 +113,9 @@ fn reply(desk: &impl Desk, call: &Call) -> Reply {
         Call::Judge { list } => Said::Number(desk.judge(list)),
         Call::Sight { list, .. } => Said::Served(desk.sight(list, &mut lent)),
         Call::Cut { n, first, second, .. } => Said::Outcome(desk.cut(*n, first, second, &mut lent)),
+        Call::Carry { pair, mark, .. } => {
+            Said::Carried(desk.carry(&pair.first, &pair.second, *mark, &mut lent))
+        }
     };
     Reply { said, lent }
 }
@@ -119,8 +131,8 @@ pub fn compare_call(desk: &impl Desk, call: &Call) -> Result<(), String> {
     }
 }
 
-/// Makes that many rounds of calls, one of each kind or more a round, with any lists, cells and
-/// rooms, and counts the calls.
+/// Makes that many rounds of calls, one of each kind or more a round, with any lists, cells, marks
+/// and rooms, and counts the calls.
 pub fn compare_calls(
     desk: &impl Desk,
     seed: u64,

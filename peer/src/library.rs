@@ -4,6 +4,7 @@
 
 use crate::desk::Outcome;
 use crate::desks::Desk;
+use crate::marks::{Axis, Flat, Mark};
 use std::ffi::{c_char, c_int, c_void, CStr, CString};
 use std::path::Path;
 
@@ -16,22 +17,41 @@ struct COutcome {
     bytes: usize,
 }
 
-/// An outcome is written where the first argument points, on every machine: so the product's module
-/// has it. A C function that returns a struct would do the same on x86-64, but not on Arm, where
-/// the address comes in a register of its own.
+/// The product's carried mark as C lays it out.
+#[repr(C)]
+#[derive(Default)]
+struct CCarried {
+    number: u8,
+    lands: u8,
+    pieces: usize,
+    bytes: usize,
+    x_step: i64,
+    x_rest: f64,
+    y_step: i64,
+    y_rest: f64,
+}
+
+/// A struct that comes back is written where the first argument points, on every machine: so the
+/// product's module has it. A C function that returns one would do the same on x86-64, but not on
+/// Arm, where the address comes in a register of its own.
 type Answer =
     unsafe extern "C" fn(*mut COutcome, *const i32, usize, *const i32, usize, *mut u8, usize);
 type Judge = unsafe extern "C" fn(*const i32, usize) -> u8;
 type Sight = unsafe extern "C" fn(*const i32, usize, *mut u8, usize) -> bool;
 type Cut =
     unsafe extern "C" fn(*mut COutcome, usize, *const u8, usize, *const u8, usize, *mut u8, usize);
+#[rustfmt::skip]
+type Carry = unsafe extern "C" fn(
+    *mut CCarried, *const i32, usize, *const i32, usize, i32, i32, *mut u8, usize,
+);
 
 pub struct Library {
     answer: Answer,
-    /// Earlier checkouts do not have it.
-    judge: Option<Judge>,
     sight: Sight,
     cut: Cut,
+    /// Earlier checkouts do not have these.
+    judge: Option<Judge>,
+    carry: Option<Carry>,
 }
 
 #[link(name = "dl")]
@@ -48,10 +68,11 @@ impl Library {
     /// Loads a library that has every call.
     pub fn load(path: &Path) -> Result<Library, String> {
         let library = Library::load_other(path)?;
-        if library.judges() {
-            Ok(library)
-        } else {
-            Err(format!("{}: no iravikkon_judge", path.display()))
+        let missing = |name: &str| Err(format!("{}: no {name}", path.display()));
+        match (library.judges(), library.carries()) {
+            (false, _) => missing("iravikkon_judge"),
+            (_, false) => missing("iravikkon_carry"),
+            _ => Ok(library),
         }
     }
 
@@ -70,19 +91,25 @@ impl Library {
             let missing = || format!("{}: no {}", path.display(), name.to_string_lossy());
             (!found.is_null()).then_some(found).ok_or_else(missing)
         };
-        // The product has its calls in these forms (crates/desk/src/lib.rt and stages.rt).
+        // The product has its calls in these forms (crates/desk/src/lib.rt and stages.rt,
+        // crates/marks/src/flat.rt).
         unsafe {
             Ok(Library {
                 answer: std::mem::transmute::<*mut c_void, Answer>(find(c"iravikkon_answer")?),
-                judge: find(c"iravikkon_judge").ok().map(|f| std::mem::transmute::<_, Judge>(f)),
                 sight: std::mem::transmute::<*mut c_void, Sight>(find(c"iravikkon_sight")?),
                 cut: std::mem::transmute::<*mut c_void, Cut>(find(c"iravikkon_cut")?),
+                judge: find(c"iravikkon_judge").ok().map(|f| std::mem::transmute::<_, Judge>(f)),
+                carry: find(c"iravikkon_carry").ok().map(|f| std::mem::transmute::<_, Carry>(f)),
             })
         }
     }
 
     pub fn judges(&self) -> bool {
         self.judge.is_some()
+    }
+
+    pub fn carries(&self) -> bool {
+        self.carry.is_some()
     }
 }
 
@@ -91,6 +118,15 @@ fn outcome(call: impl FnOnce(*mut COutcome)) -> Outcome {
     let mut written = COutcome::default();
     call(&mut written);
     Outcome { number: written.number, pieces: written.pieces, bytes: written.bytes }
+}
+
+/// The same for a carried mark.
+fn carried(call: impl FnOnce(*mut CCarried)) -> Flat {
+    let mut written = CCarried::default();
+    call(&mut written);
+    let CCarried { number, lands, pieces, bytes, x_step, x_rest, y_step, y_rest } = written;
+    let axes = [Axis { step: x_step, rest: x_rest }, Axis { step: y_step, rest: y_rest }];
+    Flat { outcome: Outcome { number, pieces, bytes }, lands, axes }
 }
 
 // Each pointer comes with the length of its own slice; what is written to is lent alone.
@@ -114,5 +150,13 @@ impl Desk for Library {
         let (one, two) = (first.as_ptr(), second.as_ptr());
         let (out, size) = (room.as_mut_ptr(), room.len());
         outcome(|to| unsafe { (self.cut)(to, n, one, first.len(), two, second.len(), out, size) })
+    }
+
+    fn carry(&self, first: &[i32], second: &[i32], mark: Mark, room: &mut [u8]) -> Flat {
+        let carry = self.carry.expect("a library that carries");
+        let (one, two) = (first.as_ptr(), second.as_ptr());
+        let (out, size) = (room.as_mut_ptr(), room.len());
+        let Mark { x, y } = mark;
+        carried(|to| unsafe { carry(to, one, first.len(), two, second.len(), x, y, out, size) })
     }
 }

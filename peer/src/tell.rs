@@ -1,6 +1,9 @@
-//! The answers to an input in words: the pieces of each pair, or its refusal. The answers are the
-//! program's, and the words are those of the page (`show`).
+//! The answers to an input in words: the pieces of each pair, or its refusal; or where a mark lands.
+//! The answers are the program's, and the words are those of the page (`show`).
 
+use crate::drawing::Corner;
+use crate::marks::Mark;
+use crate::show::landings::{self, Landing};
 use crate::show::reading::{self, fits, Answer, Drawing};
 use crate::show::words::{self, counted, letters, ENDED};
 use crate::telling::Piece;
@@ -14,6 +17,18 @@ pub fn tell(frames: &[u8], answers: &[u8]) -> String {
     let paragraph = |(k, pair)| format!("Pair {}\n{}\n", k + 1, told(pair, answers.get(k)));
     let mut paragraphs: Vec<String> = frames.pairs.iter().enumerate().map(paragraph).collect();
     paragraphs.extend(end(frames.stop, beyond));
+    paragraphs.join("\n")
+}
+
+/// Where a mark lands in each pair, by the lines given, and why there is no more.
+pub fn carried(frames: &[u8], mark: Mark, lines: &[u8]) -> String {
+    let frames = reading::frames(frames);
+    let landings: Vec<Landing> = landings::landings(lines);
+    let mark = Corner::at(i64::from(mark.x), i64::from(mark.y));
+    let said = |k: usize| landings::told(mark, landings.get(k));
+    let paragraph = |k: usize| format!("Pair {}\n{}\n", k + 1, said(k));
+    let mut paragraphs: Vec<String> = (0..frames.pairs.len()).map(paragraph).collect();
+    paragraphs.extend(frames.stop.map(|stop| stop + "\n"));
     paragraphs.join("\n")
 }
 

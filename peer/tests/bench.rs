@@ -1,5 +1,6 @@
 //! The benchmark: what it measures, and how.
 
+use peer::bench::carrying;
 use peer::bench::contestants::{Work, Works, ROOM};
 use peer::bench::race::{race, Turns};
 use peer::bench::rates::{rates, Run};
@@ -93,4 +94,29 @@ fn a_table_has_the_stages_of_its_first_contestant() {
 | convex | 16 | 1/1 | 1.50 | 3.00 | 0.50 | 4.0x |
 ";
     assert_eq!(table(["rival", "product"], &[row(8, 6.0, 10.0), row(16, 1.5, 40.0)]), expected);
+}
+
+/// The mark that is measured is in the last wedge of the answer: a convex drawing has its last
+/// corner there.
+#[test]
+fn a_mark_in_the_last_wedge_is_measured() {
+    let (_, convex) = KINDS[0];
+    for n in sizes() {
+        let pair = &convex(n)[0];
+        let mark = carrying::last_mark(pair).expect("a cutting");
+        assert_eq!([mark.x, mark.y], pair.first[2 * n - 2..]);
+    }
+    let none = Pair { first: vec![0; 8], second: vec![0; 8] };
+    assert_eq!(carrying::last_mark(&none), None);
+}
+
+#[test]
+fn a_table_of_marks_has_what_carrying_takes_over_the_answer() {
+    let row = carrying::Row { kind: "convex", n: 64, times: [100.0, 102.0, 101.996] };
+    let expected = "\
+| pairs | n | answer | out of range | carried | over answer | over out of range |
+| --- | --- | --- | --- | --- | --- | --- |
+| convex | 64 | 100.00 | 102.00 | 102.00 | 2.0 % | 0.0 % |
+";
+    assert_eq!(carrying::table(&[row]), expected);
 }

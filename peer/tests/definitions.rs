@@ -1,15 +1,12 @@
-//! The quick tests of `drawing` against 01's own definitions.
+//! The quick tests of `drawing` and `marks` against 01's own definitions.
 
-use peer::drawing::{judge, sees, share_a_point, share_only, Corner, Judged};
+mod inside;
+
+use inside::{in_or_on, Point};
+use peer::drawing::{judge, sees, share_a_point, share_only, turn, Corner, Judged};
+use peer::marks::holds;
 use peer::pairs::dice::Dice;
 use peer::pairs::shapes::{self, SHAPES};
-
-/// A point: a pair of whole numbers over one whole r > 0.
-struct Point {
-    x: i128,
-    y: i128,
-    r: i128,
-}
 
 fn small_corners() -> Vec<Corner> {
     let corner = |k: i64| Corner::at(k / 3, k % 3);
@@ -55,25 +52,6 @@ fn sharing_only_an_end_is_as_defined() {
     }
 }
 
-/// 01, "A sound drawing": a point on a side, or with an odd number of sides to its right.
-fn in_or_on(drawing: &[Corner], point: &Point) -> bool {
-    let sides = (0..drawing.len()).map(|i| (drawing[i], drawing[(i + 1) % drawing.len()]));
-    let mut crossings = 0;
-    for (a, b) in sides {
-        let (ax, ay) = (i128::from(a.x) * point.r, i128::from(a.y) * point.r);
-        let (bx, by) = (i128::from(b.x) * point.r, i128::from(b.y) * point.r);
-        let turn = (bx - ax) * (point.y - ay) - (by - ay) * (point.x - ax);
-        let within = ax.min(bx) <= point.x && point.x <= ax.max(bx);
-        if turn == 0 && within && ay.min(by) <= point.y && point.y <= ay.max(by) {
-            return true;
-        }
-        let up = by > point.y && ay <= point.y;
-        let down = ay > point.y && by <= point.y;
-        crossings += usize::from(up && turn > 0 || down && turn < 0);
-    }
-    crossings % 2 == 1
-}
-
 /// In a sound drawing two corners that are no neighbours see each other exactly when their segment
 /// meets the outline in its two ends alone and its middle is in the drawing.
 #[test]
@@ -96,6 +74,30 @@ fn sight_is_a_clear_line_inside() {
         }
     }
     assert!(seen[0] > 10_000 && seen[1] > 10_000);
+}
+
+/// A wedge with area holds what 01 has in or on it as a drawing of three corners, whichever way
+/// they turn.
+#[test]
+fn a_wedge_holds_what_is_in_or_on_it() {
+    let corners = small_corners();
+    let mut held = [0, 0];
+    for &c in &corners {
+        for &a in &corners {
+            for &b in &corners {
+                for x in -1..=3 {
+                    for y in -1..=3 {
+                        let point = Point { x: i128::from(x), y: i128::from(y), r: 1 };
+                        let defined = turn(c, a, b) != 0 && in_or_on(&[c, a, b], &point);
+                        let holds = holds([c, a, b], Corner::at(x, y));
+                        assert_eq!(holds, defined, "({x}, {y}) in {c:?} {a:?} {b:?}");
+                        held[usize::from(holds)] += 1;
+                    }
+                }
+            }
+        }
+    }
+    assert!(held[0] > 1_000 && held[1] > 1_000, "{held:?}");
 }
 
 fn meets_ends_alone(drawing: &[Corner], i: usize, j: usize) -> bool {

@@ -1,7 +1,9 @@
 //! The answers in words (src/tell.rs).
 
+use peer::ask::where_a_mark_lands;
 use peer::frames::{self, frame, FIRST, SECOND};
-use peer::tell::tell;
+use peer::marks::{carry, Mark};
+use peer::tell::{carried, tell};
 use std::io::Write;
 use std::path::Path;
 use std::process::{Command, Stdio};
@@ -106,4 +108,55 @@ fn the_program() {
     for words in [&[][..], &["--answers"], &["answers"], &["--answers", "a", "b"]] {
         assert_eq!(run(words), (Some(2), String::new()));
     }
+}
+
+/// The fox's eye, in the words of docs/pictures that the README quotes, where the peer puts it.
+#[test]
+fn the_eye() {
+    let above = Path::new(concat!(env!("CARGO_MANIFEST_DIR"), "/.."));
+    let Ok(fox) = std::fs::read(above.join("docs/pictures/fox.hex")) else {
+        return;
+    };
+    let eye = Mark { x: 76, y: 250 };
+    let question = where_a_mark_lands(&fox, eye);
+    let words: Vec<i32> = question.split(' ').map(|word| word.trim().parse().unwrap()).collect();
+    let (first, second) = (&words[2..48], &words[49..95]);
+    let place = carry(first, second, eye, &mut [0; 310]).place.expect("an eye in the head");
+    let [x, y] = place.map(|axis| format!("{} {}", axis.step, axis.rest.to_bits()));
+    let told = carried(&fox, eye, format!("0 {x} {y}\n").as_bytes());
+    assert_eq!(told, std::fs::read_to_string(above.join("docs/pictures/eye.txt")).unwrap());
+    let readme = std::fs::read_to_string(above.join("README.md")).unwrap();
+    for line in told.lines() {
+        assert!(readme.contains(line), "README.md lacks: {line}");
+    }
+}
+
+/// Where a mark lands, in words: the place whole, and what else can be said of it.
+#[test]
+fn a_mark_carried() {
+    let input = [pair(&Z, &H), pair(&S, &CROSSED), pair(&S, &S)].concat();
+    let quarter = 0.25_f64.to_bits();
+    let lines = format!("0 -1234 {quarter} 4 0\n7\n0\n");
+    let told = carried(&input, Mark { x: 4, y: -2 }, lines.as_bytes());
+    let expected = "\
+Pair 1
+The mark at (4; -2) lands at x -1,234 and 0.25 of a step, y 4 and 0 of a step.
+
+Pair 2
+7: the second drawing is not simple
+
+Pair 3
+The mark at (4; -2) is on no piece.
+";
+    assert_eq!(told, expected);
+    for (line, words) in [
+        ("10\n", "10: the mark has a coordinate out of range\n"),
+        ("?\n", "This says nothing of a mark: ?\n"),
+        ("", "Nothing is said of the mark in this pair.\n"),
+    ] {
+        let told = carried(&pair(&S, &S), Mark { x: 0, y: 0 }, line.as_bytes());
+        assert_eq!(told, format!("Pair 1\n{words}"));
+    }
+    let ended = carried(b"100\n", Mark { x: 0, y: 0 }, b"");
+    assert_eq!(ended, "Line 1 of the frames is of another form.\n");
 }

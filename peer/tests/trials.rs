@@ -5,6 +5,7 @@ use peer::desk::{self, Outcome};
 use peer::desks::{compare_calls, Desk, Peer, ROW};
 use peer::drawing::{judge, Judged, Sight};
 use peer::exhaustive;
+use peer::marks::{self, Flat, Mark};
 use peer::pairs::calls::{self, Call};
 use peer::pairs::dice::Dice;
 use peer::pairs::shapes::{self, SHAPES};
@@ -83,6 +84,14 @@ enum Fault {
     /// The same for a cutting as for an answer.
     CutGiven,
     CutRefused,
+    /// The same for a mark.
+    CarryGiven,
+    CarryRefused,
+    /// The last bit of a rest, and its sign where there is no place.
+    Rest,
+    SignOfNothing,
+    /// A mark out of range is refused before the pair is looked at.
+    TenFirst,
 }
 
 /// The desk by the search that tries every cutting, with a fault in it or without.
@@ -138,12 +147,28 @@ impl Desk for Other {
         self.spoil_room([Fault::CutGiven, Fault::CutRefused], &outcome, room);
         outcome
     }
+
+    fn carry(&self, first: &[i32], second: &[i32], mark: Mark, room: &mut [u8]) -> Flat {
+        let search = exhaustive::first_smallest;
+        let mut flat = Flat::from(marks::carry_by(search, first, second, mark, room));
+        self.spoil_room([Fault::CarryGiven, Fault::CarryRefused], &flat.outcome, room);
+        let rest = &mut flat.axes[1].rest;
+        match self.fault {
+            Some(Fault::Rest) if *rest > 0.0 => *rest = rest.next_down(),
+            Some(Fault::SignOfNothing) if flat.lands == 0 => *rest = -*rest,
+            Some(Fault::TenFirst) if mark.x.unsigned_abs() > 1_000_000 => {
+                flat.outcome = desk::refused(marks::OUT_OF_RANGE);
+            }
+            _ => {}
+        }
+        flat
+    }
 }
 
 #[test]
 fn calls_compare_every_byte_lent() {
     let compare = |fault: Option<Fault>| compare_calls(&Other { fault }, 1, 600, 8);
-    assert_eq!(compare(None), Ok(4200));
+    assert_eq!(compare(None), Ok(5400));
     for fault in [
         Fault::AnswerGiven,
         Fault::AnswerRefused,
@@ -154,6 +179,11 @@ fn calls_compare_every_byte_lent() {
         Fault::Served,
         Fault::CutGiven,
         Fault::CutRefused,
+        Fault::CarryGiven,
+        Fault::CarryRefused,
+        Fault::Rest,
+        Fault::SignOfNothing,
+        Fault::TenFirst,
     ] {
         assert!(compare(Some(fault)).is_err(), "{fault:?}");
     }
@@ -173,6 +203,28 @@ fn calls_cut_and_refuse() {
         }
     }
     assert!([0, 1, 9].iter().all(|&k| numbers[k] > 50) && most > 10, "{numbers:?} {most}");
+}
+
+/// The marks that are made: every number comes, and marks land on whole places, between them, and
+/// on no piece.
+#[test]
+fn calls_carry_and_refuse() {
+    let mut dice = Dice::new(7);
+    let mut numbers = [0; 11];
+    let (mut nowhere, mut whole, mut between) = (0, 0, 0);
+    for call in (0..600).flat_map(|_| calls::round(&mut dice, 24)) {
+        if let Call::Carry { pair, mark, mut room } = call {
+            let carried = marks::carry(&pair.first, &pair.second, mark, &mut room);
+            numbers[usize::from(carried.outcome.number)] += 1;
+            match carried.place {
+                Some(axes) if axes.iter().all(|axis| axis.rest == 0.0) => whole += 1,
+                Some(_) => between += 1,
+                None => nowhere += usize::from(carried.outcome.number == 0),
+            }
+        }
+    }
+    assert!(numbers.iter().all(|&count| count > 0), "{numbers:?}");
+    assert!([nowhere, whole, between].iter().all(|&count| count > 50));
 }
 
 #[test]

@@ -1,5 +1,7 @@
 //! The peer on recorded answers and on the outlines of 01.
 
+// Marks are carried in a test of their own.
+#[allow(dead_code)]
 mod recorded;
 
 use peer::desk::{self, Outcome};

@@ -21,7 +21,7 @@ use Rattle.cutting.specs.declared.Searched.{Searched}
 use Rattle.cutting.specs.declared.Searched.the-variants.{Unserved, NoCutting, Found}
 use Rattle.cutting.specs.Answer.{MayCut, plan, Served, asked, bit, Marks, number, Searches}
 use Rattle.cutting.specs.Rows.{none, Cut, Veil, Read, Filled}
-use Rattle.cutting.specs.Marks.{Ticks, Solves, Drawn}
+use Rattle.cutting.specs.Tracing.{Ticks, Solves, Drawn}
 use Rattle.cutting.proofs.Marking.{marked-says, ticks-marked}
 use Rattle.cutting.proofs.Finds.{refuses}
 

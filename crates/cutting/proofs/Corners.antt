@@ -12,7 +12,7 @@ use Rattle.cutting.specs.Rows.{none}
 use Rattle.rules.specs.Columns.{costs}
 use Rattle.rules.specs.Choice.{Sought, stepOf, nextOf, restOf, fits, less, better, pickFrom, pickOf}
 use Rattle.rules.specs.Cells.{cell}
-use Rattle.cutting.specs.Marks.{nextIn, restIn, fitsIn, betterIn, pickIn, Next}
+use Rattle.cutting.specs.Tracing.{nextIn, restIn, fitsIn, betterIn, pickIn, Next}
 use Rattle.rules.specs.Seek.{sought-unique, step-is, next-left, next-right}
 use Rattle.rules.specs.Follow.{next-goes, rest-next, Goes}
 

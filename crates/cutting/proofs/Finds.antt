@@ -23,9 +23,9 @@ use Rattle.rules.specs.Ways.{Sees}
 use Rattle.rules.specs.Picks.{table}
 use Rattle.rules.specs.Trace.{traced-first}
 use Rattle.cutting.specs.Rows.{none, Cut, Veil, Lines, Rights, Filled}
-use Rattle.cutting.specs.Marks.{Ticks, Started, Tracing, Solves, Drawn}
+use Rattle.cutting.specs.Tracing.{Ticks, Started, Tracing, Solves, Drawn}
 use Rattle.cutting.proofs.Marking.{marked-says, same-marked, ticks-set}
-use Rattle.cutting.proofs.Tracing.{traced-seen}
+use Rattle.cutting.proofs.Traced.{traced-seen}
 
 module _ {cuts veil val left right : List ℕ} {n : ℕ} (m : ℕ) (big : 2 ≤ m) (corners : n ≡ suc m) (small : n ≤ row)
     (veils : Veil veil)

@@ -15,7 +15,7 @@ mod Corners
 -- the set as it grows
 mod Marking
 -- each range that is met keeps the set traced
-mod Tracing
+mod Traced
 -- ---- the ends
 -- finished tables, and the set that is traced from them
 mod Finds

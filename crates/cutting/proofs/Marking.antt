@@ -13,7 +13,7 @@ use lib.Seq.{getD-set-same, getD-set-other}
 use Rattle.limits.specs.Limits.{row, all-cells, place}
 use Rattle.rules.specs.Cells.{cell, marked, filled, filled-is, marked-wide, marked-small, marked-is, marked-other}
 use Rattle.rules.specs.Traced.{LineOfRoad}
-use Rattle.cutting.specs.Marks.{Ticks, Ticked, Marked, Cleared, Started}
+use Rattle.cutting.specs.Tracing.{Ticks, Ticked, Marked, Cleared, Started}
 
 pub above : (z : ℕ) → ¬ (z ≡ 0) → 0 < z
 above zero k = absurd (k refl)

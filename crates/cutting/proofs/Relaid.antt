@@ -14,7 +14,7 @@ use Rattle.rules.specs.Cells.{cell}
 use Rattle.rules.specs.Columns.{pays, Least, Lane}
 use Rattle.rules.specs.Small.{least-same}
 use Rattle.cutting.specs.Rows.{none, lane, Veil, Blank, Reach, LaneOf, Laned}
-use Rattle.cutting.specs.Marks.{fitsIn, LowestFit, Lanes}
+use Rattle.cutting.specs.Tracing.{fitsIn, LowestFit, Lanes}
 use Rattle.cutting.proofs.Values.{clash}
 
 -- ---- the cheapest step, of those to corners below t

@@ -11,4 +11,4 @@ pub mod Tells
 -- the readings, the rows, the tables line by line
 pub mod Rows
 -- the set of pairs as it grows
-pub mod Marks
+pub mod Tracing

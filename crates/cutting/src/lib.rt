@@ -2,15 +2,15 @@
 // and no byte of an answer.
 //
 // The search fills the values of the lines column by column (`lines`, over the rows of `lanes`); of the earlier
-// columns it keeps tables of pairs only. The cutting is then traced from the values (`pieces`, `marks`). No choice is
-// stored.
+// columns it keeps tables of pairs only. The cutting is then traced from the values (`pieces`, `tracing`). No choice
+// is stored.
 mod again;
 mod cells;
 mod lanes;
 mod lines;
-mod marks;
 mod pieces;
 mod reading;
+mod tracing;
 
 use cells::cell;
 use lanes::NONE;
@@ -18,8 +18,8 @@ use limits::ALL_CELLS;
 use limits::FEWEST_CORNERS;
 use limits::MOST_CORNERS;
 use lines::solve;
-use marks::trace;
 use reading::read;
+use tracing::trace;
 ghost use mathlib.Core.Path.{_≡_};
 ghost use lib.ListN.{length};
 ghost use Rattle.limits.specs.Limits.{all-cells};

@@ -14,8 +14,8 @@ ghost use Rattle.rules.specs.Columns.{costs};
 ghost use Rattle.rules.specs.Choice.{Sought, less};
 ghost use Rattle.rules.specs.Cells.{cell};
 ghost use Rattle.cutting.specs.Rows.{none, Veil};
-ghost use Rattle.cutting.specs.Marks.{Routes, Next, restIn, fitsIn, betterIn, pickIn};
-ghost use Rattle.cutting.specs.Marks.{LowestFit, EveryIn, Lanes, Chosen};
+ghost use Rattle.cutting.specs.Tracing.{Routes, Next, restIn, fitsIn, betterIn, pickIn};
+ghost use Rattle.cutting.specs.Tracing.{LowestFit, EveryIn, Lanes, Chosen};
 
 // The corner after c on the road of x to t: the smallest whose step and rest cost what the road costs; t where no
 // other does.

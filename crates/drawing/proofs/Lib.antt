@@ -1,5 +1,5 @@
 -- signed numbers of the machine
-mod Machine
+pub mod Machine
 -- what the corners know, one after the other
 mod Learning
 -- ---- the table of sight as it fills

@@ -1,5 +1,6 @@
 -- ---- to be believed: 01's definitions, and what the two public calls promise in their terms
 pub mod Drawing
+pub mod InOrOn
 pub mod Judgement
 pub mod Sight
 -- ---- what the private functions promise
@@ -9,7 +10,7 @@ pub mod Known
 -- corner, how far a side reaches that meets a segment, the corners' numbers, the sides of a simple drawing, sight,
 -- sight from the open sides, and what the digits of masks tell of sides and of angles
 pub mod Tells
-mod Spell
+pub mod Spell
 pub mod Segments
 pub mod Quick
 pub mod Meeting
@@ -23,6 +24,14 @@ pub mod Seeing
 pub mod Looking
 pub mod Digits
 pub mod Faced
+-- ---- laws of "in or on": points on segments, sides that pass to the right, an odd number of them
+pub mod OnSegment
+pub mod Passing
+pub mod Odd
+-- and of sight: no corner stands on the line between two that see each other; no such line has a part of another
+pub mod Unbroken
+pub mod TwoPoints
+pub mod OneLine
 -- ---- the two answers, and that no second one keeps the promise
 pub mod Judging
 pub mod Seen

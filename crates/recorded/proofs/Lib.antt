@@ -1,3 +1,4 @@
 mod Words
-mod Numbers
+pub mod Numbers
 mod Places
+mod Fronts

@@ -1,9 +1,9 @@
 // What every call has: the room that it is lent, and what must come back.
 use desk::Outcome;
-use recorded::decimals::read_bytes;
+use recorded::counted::up_to;
 use recorded::decimals::read_natural;
 use recorded::lent::agree;
-use recorded::lent::fill;
+use recorded::lent::read_left;
 ghost use mathlib.Core.Path.{_≡_};
 ghost use Prim.Native.Nat.{_≤_};
 ghost use lib.ListN.{length};
@@ -26,13 +26,6 @@ pub struct Expected {
     pub good: bool,
 }
 
-// How many bytes were read, and where the text goes on.
-struct Part {
-    count: u64,
-    next: usize,
-    good: bool,
-}
-
 // Where the next call is looked for, and whether this one gave what it must.
 pub struct Ran {
     pub next: usize,
@@ -45,35 +38,6 @@ pub fn counted(b: bool) -> u64
     if b { 1 } else { 0 }
 }
 
-// A number up to `most`, or 0: one that is larger makes the call unreadable.
-pub fn up_to(most: usize, n: u64) -> usize
-    ensures { λ r. ⌜ r ≤ most ⌝ }
-{
-    if n <= most as u64 { n as usize } else { 0 }
-}
-
-// What a call must leave: the bytes that the text has (how many, then each), and after them what was there.
-fn left(text: &[u8], at: usize, out: &mut [u8]) -> Part
-    requires { ⌜ length (now out) ≡ 16384 ⌝ }
-{
-    fill(out);
-    let n = read_natural(text, at);
-    if n.value > BUFFER as u64 {
-        return Part {
-            count: 0,
-            next: at,
-            good: false,
-        };
-    }
-    let m = n.value as usize;
-    let read = read_bytes(text, n.next, &mut out[..m]);
-    Part {
-        count: n.value,
-        next: read.next,
-        good: read.good,
-    }
-}
-
 pub fn read_expected(text: &[u8], at: usize, after: &mut [u8]) -> Expected
     requires { ⌜ length (now after) ≡ 16384 ⌝ }
     ensures { λ r. ⌜ r .room ≤ 16384 ⌝ }
@@ -81,13 +45,13 @@ pub fn read_expected(text: &[u8], at: usize, after: &mut [u8]) -> Expected
     let room = read_natural(text, at);
     let number = read_natural(text, room.next);
     let pieces = read_natural(text, number.next);
-    let bytes = left(text, pieces.next, after);
+    let bytes = read_left(text, pieces.next, after);
     Expected {
         room: up_to(BUFFER, room.value),
         due: Due {
             number: number.value,
             pieces: pieces.value,
-            bytes: bytes.count,
+            bytes: bytes.count as u64,
         },
         next: bytes.next,
         good: room.value <= BUFFER as u64 && bytes.good,

@@ -4,10 +4,8 @@ use crate::call::Ran;
 use crate::call::cannot_be_read;
 use crate::call::read_expected;
 use crate::call::same;
-use crate::call::up_to;
 use desk::Outcome;
-use recorded::decimals::read_natural;
-use recorded::decimals::read_wholes;
+use recorded::counted::read_list;
 use recorded::decimals::word_end;
 use recorded::lent::fill;
 ghost use mathlib.Core.Path.{_≡_};
@@ -16,13 +14,6 @@ ghost use lib.ListN.{length};
 
 // The longest list of a call.
 const LIST: usize = 512;
-
-// How long a list is, and where the text goes on.
-struct Part {
-    count: usize,
-    next: usize,
-    good: bool,
-}
 
 // How long both lists are.
 struct Asked {
@@ -33,27 +24,12 @@ struct Asked {
 }
 
 // ---- reading
-// A list: its length, then its numbers.
-fn list(text: &[u8], at: usize, out: &mut [i32]) -> Part
-    requires { ⌜ length (now out) ≡ 512 ⌝ }
-    ensures { λ r. ⌜ r .count ≤ 512 ⌝ }
-{
-    let n = read_natural(text, at);
-    let m = up_to(LIST, n.value);
-    let read = read_wholes(text, n.next, &mut out[..m]);
-    Part {
-        count: m,
-        next: read.next,
-        good: n.value <= LIST as u64 && read.good,
-    }
-}
-
 fn read_asked(text: &[u8], at: usize, first: &mut [i32], second: &mut [i32]) -> Asked
     requires { ⌜ (length (now first) ≡ 512) × (length (now second) ≡ 512) ⌝ }
     ensures { λ r. ⌜ (r .first ≤ 512) × (r .second ≤ 512) ⌝ }
 {
-    let a = list(text, word_end(text, at), first);
-    let b = list(text, a.next, second);
+    let a = read_list(text, word_end(text, at), first);
+    let b = read_list(text, a.next, second);
     Asked {
         first: a.count,
         second: b.count,

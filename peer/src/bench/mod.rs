@@ -1,6 +1,7 @@
 //! The benchmark: contestants race turn by turn on the same pairs, stage by stage, and tables set
-//! two of them beside each other.
+//! two of them beside each other. Carrying a mark has a table of its own.
 
+pub mod carrying;
 pub mod contestants;
 pub mod measure;
 pub mod race;

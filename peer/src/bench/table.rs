@@ -49,10 +49,10 @@ fn ratio(one: Option<f64>, other: Option<f64>) -> Option<f64> {
 }
 
 /// A number with two places, or a stroke where there is none.
-fn told(number: Option<f64>) -> String {
+pub fn told(number: Option<f64>) -> String {
     number.map_or("-".into(), |number| format!("{number:.2}"))
 }
 
-fn line(cells: &[String]) -> String {
+pub fn line(cells: &[String]) -> String {
     format!("| {} |\n", cells.join(" | "))
 }

@@ -3,11 +3,13 @@
 //! run. A checkout has its library in target/native (tools/library makes it) and its program in
 //! target/bin. A quick run has one turn: it shows that all of it runs, and no times.
 
+use peer::bench::carrying;
 use peer::bench::measure::{measure, Libraries, Measured};
 use peer::bench::race::Turns;
 use peer::bench::rates::{rates, Run};
 use peer::bench::table::{table, Row};
 use peer::bench::{rows, Times};
+use peer::drawing::MOST_CORNERS;
 use peer::frames;
 use peer::library::Library;
 use peer::program::Program;
@@ -61,6 +63,9 @@ fn bench(turns: Turns, folders: &[PathBuf]) -> Result<(), String> {
         let rows: Vec<Row> = measured.iter().map(row).collect();
         println!("\n{}", table(names, &rows));
     }
+    if let Some(product) = &libraries.product {
+        print_carrying(turns, product)?;
+    }
     print_rates(turns.count.min(BIG_TURNS), folders)
 }
 
@@ -80,6 +85,22 @@ fn tables(libraries: &Libraries) -> Vec<Two> {
         tables.push((["before", "after"], |m| [m.before, m.product]));
     }
     tables
+}
+
+/// The product's marks at the most corners, on the kinds of pairs that get a cutting.
+fn print_carrying(turns: Turns, product: &Library) -> Result<(), String> {
+    let mut lines = Vec::new();
+    for (kind, pairs) in rows::KINDS {
+        eprintln!("{kind}, {MOST_CORNERS} corners, a mark");
+        let times = carrying::measure(turns, product, &pairs(MOST_CORNERS))?;
+        lines.extend(times.map(|times| carrying::Row { kind, n: MOST_CORNERS, times }));
+    }
+    println!(
+        "Microseconds a pair: its answer; a mark out of range, for which the pair is answered and no \
+         wedge is looked at; and a mark in the wedge that is looked at last.\n\n{}",
+        carrying::table(&lines)
+    );
+    Ok(())
 }
 
 /// The peer, and the checkouts' programs where they run without an emulator, on the big frames.

@@ -1,8 +1,12 @@
 //! Calls to try on a desk's library: whatever a slice can hold, in any length.
 
 use super::dice::Dice;
-use super::{pair_up_to, Kind, Pair};
+use super::{marks, pair_up_to, Kind, Pair};
 use crate::desks::{Desk, Peer, CELLS, ROW};
+use crate::marks::Mark;
+
+/// How many marks of a pair are carried in a round.
+const MARKS: usize = 2;
 
 /// A call with its arguments, those that are lent among them.
 #[derive(Clone, Debug)]
@@ -11,13 +15,14 @@ pub enum Call {
     Judge { list: Vec<i32> },
     Sight { list: Vec<i32>, cells: Vec<u8> },
     Cut { n: usize, first: Vec<u8>, second: Vec<u8>, room: Vec<u8> },
+    Carry { pair: Pair, mark: Mark, room: Vec<u8> },
 }
 
 impl Call {
     /// What is lent to the call, to be written to.
     pub fn lent(&self) -> &[u8] {
         match self {
-            Call::Answer { room, .. } | Call::Cut { room, .. } => room,
+            Call::Answer { room, .. } | Call::Cut { room, .. } | Call::Carry { room, .. } => room,
             Call::Sight { cells, .. } => cells,
             Call::Judge { .. } => &[],
         }
@@ -25,7 +30,7 @@ impl Call {
 }
 
 /// A pair's answer; its drawings judged and looked at; a cutting from their sight and one from
-/// cells that come from no drawing.
+/// cells that come from no drawing; marks of the pair carried.
 pub fn round(dice: &mut Dice, most: usize) -> Vec<Call> {
     let kind = dice.pick(&[Kind::Mixed, Kind::Mixed, Kind::Mixed, Kind::Lists]);
     let pair = pair_up_to(dice, kind, most);
@@ -38,10 +43,13 @@ pub fn round(dice: &mut Dice, most: usize) -> Vec<Call> {
     }
     let sights = [&pair.first, &pair.second].map(|list| sight_of(dice, list));
     calls.push(cut(dice, n, sights));
-    let n = 3 + dice.below(most - 2);
+    let any = 3 + dice.below(most - 2);
     let of_ten = dice.pick(&[4, 7, 8, 9]);
     let cells = [(); 2].map(|()| any_cells(dice, of_ten));
-    calls.push(cut(dice, n, cells));
+    calls.push(cut(dice, any, cells));
+    for mark in marks::marks(dice, &pair, MARKS) {
+        calls.push(Call::Carry { pair: pair.clone(), mark, room: some_room(dice, n) });
+    }
     calls
 }
 

@@ -298,7 +298,7 @@ fn with_corners(dice: &mut Dice, mut drawing: Vec<Corner>, n: usize) -> Option<V
 }
 
 /// A whole-number point between the ends of a side.
-fn inner_point(dice: &mut Dice, a: Corner, b: Corner) -> Option<Corner> {
+pub fn inner_point(dice: &mut Dice, a: Corner, b: Corner) -> Option<Corner> {
     let (dx, dy) = (b.x - a.x, b.y - a.y);
     let parts = common_divisor(dx.abs(), dy.abs());
     (parts > 1).then(|| {

@@ -1,5 +1,5 @@
 //! One drawing on the page: its outline with numbered corners, and on it the pieces of the
-//! cutting, or the marks of a refusal.
+//! cutting and a mark that is carried, or the marks of a refusal.
 
 use super::colours::COLOURS;
 use super::labels::{font, leader, Label, Surroundings};
@@ -24,11 +24,15 @@ const MOST_RINGS: usize = 64;
 const LETTER: f64 = 13.0;
 const LETTER_ROOM: f64 = 6.5;
 
+/// How far the diamond of a carried mark reaches, and how far from the drawing it is still drawn.
+const DIAMOND: f64 = 5.0;
+const NEAR: f64 = MARGIN - DIAMOND;
+
 /// What is drawn on an outline.
 #[derive(Clone, Copy)]
 pub enum Content<'a> {
-    /// Pieces and the numbers of their colours.
-    Cut(&'a [Piece], &'a [usize]),
+    /// Pieces and the numbers of their colours; where the mark is, in the drawing's units.
+    Cut(&'a [Piece], &'a [usize], Option<[f64; 2]>),
     Refused(&'a Marks),
 }
 
@@ -46,7 +50,10 @@ pub fn figure(
     );
     let outline = scale.place(drawing, origin);
     let rings = match content {
-        Content::Cut(..) => Vec::new(),
+        Content::Cut(_, _, mark) => {
+            let spot = mark.and_then(|mark| scale.spot(mark, origin, NEAR));
+            spot.into_iter().map(|spot| (spot, DIAMOND)).collect()
+        }
         Content::Refused(marks) => rings(&outline, marks),
     };
     let surroundings = Surroundings {
@@ -57,11 +64,22 @@ pub fn figure(
     };
     let labels = surroundings.labels();
     let on_outline = match content {
-        Content::Cut(pieces, colours) => cut(&outline, &labels, pieces, colours),
+        Content::Cut(pieces, colours, _) => {
+            cut(&outline, &labels, &rings, pieces, colours) + &diamonds(&rings)
+        }
         Content::Refused(marks) => refused(&outline, marks, &rings),
     };
     let numbers = numbers(&outline, &labels);
     format!("<g class=\"drawing\">\n{on_outline}{numbers}</g>\n")
+}
+
+/// A diamond in each ring.
+fn diamonds(rings: &[(Point, f64)]) -> String {
+    let diamond = |&(middle, reach): &(Point, f64)| {
+        let ways = [point(0.0, -1.0), point(1.0, 0.0), point(0.0, 1.0), point(-1.0, 0.0)];
+        svg::polygon("carried", &ways.map(|way| middle.moved(way, reach)))
+    };
+    rings.iter().map(diamond).collect()
 }
 
 /// The numbers of the corners, with a line to those that stand far off.
@@ -86,7 +104,13 @@ fn border(outline: &[Point]) -> String {
     text
 }
 
-fn cut(outline: &[Point], labels: &[Label], pieces: &[Piece], colours: &[usize]) -> String {
+fn cut(
+    outline: &[Point],
+    labels: &[Label],
+    rings: &[(Point, f64)],
+    pieces: &[Piece],
+    colours: &[usize],
+) -> String {
     let mut text = String::new();
     for (k, (piece, &colour)) in pieces.iter().zip(colours).enumerate() {
         let words = format!("{}: {}", letters(k), described(piece));
@@ -109,7 +133,7 @@ fn cut(outline: &[Point], labels: &[Label], pieces: &[Piece], colours: &[usize])
         text += &svg::circle("centre", outline[piece.centre], ring(outline.len()));
     }
     for (k, piece) in pieces.iter().enumerate() {
-        text += &letter(outline, labels, piece, &letters(k));
+        text += &letter(outline, labels, rings, piece, &letters(k));
     }
     text
 }
@@ -167,14 +191,21 @@ fn wedge(outline: &[Point], piece: &Piece, colour: &str) -> String {
     svg::sector("wedge", colour, centre, ways, radius)
 }
 
-/// The piece's letter where there is most room, if there is enough of it: off the sides and the
-/// labels, and off the centre and its lines too if that can be had.
-fn letter(outline: &[Point], labels: &[Label], piece: &Piece, name: &str) -> String {
+/// The piece's letter where there is most room, if there is enough of it: off the sides, the labels
+/// and the rings, and off the centre and its lines too if that can be had.
+fn letter(
+    outline: &[Point],
+    labels: &[Label],
+    rings: &[(Point, f64)],
+    piece: &Piece,
+    name: &str,
+) -> String {
     let region = region(outline, piece);
     let sight = lines_of_sight(outline, piece);
     let from_labels = |p: Point| {
         let rooms = labels.iter().map(|label| label.distance(p));
-        rooms.fold(f64::INFINITY, f64::min)
+        let from_rings = rings.iter().map(|(middle, radius)| middle.to(p).length() - radius);
+        rooms.chain(from_rings).fold(f64::INFINITY, f64::min)
     };
     let from_sides = |p: Point| {
         let rooms = sides(&region).map(|side| distance(p, side));

@@ -2,12 +2,14 @@
 
 use super::colours::{self, COLOURS};
 use super::figure::{self, Content, MARGIN};
+use super::landings::{self, Landing};
 use super::marks::{self, Marks};
 use super::plane::{point, Point, Scale};
 use super::reading::{self, Answer, Drawing, Frames};
 use super::svg;
 use super::words::{self, counted, grouped, wrapped, ENDED};
 use crate::drawing::Corner;
+use crate::marks::Mark;
 use crate::telling::Piece;
 
 /// The most pairs on one page, so that a page stays one that a browser opens.
@@ -30,14 +32,36 @@ const CHARACTER: f64 = 6.4;
 
 /// The page of an input and of what the program wrote for it, if that is known.
 pub fn page(frames: &[u8], answers: Option<&[u8]>) -> String {
+    whole(frames, answers, None)
+}
+
+/// The same with a mark of every first drawing, and where it lands in the second by the lines
+/// given.
+pub fn page_with_mark(
+    frames: &[u8],
+    answers: Option<&[u8]>,
+    mark: Mark,
+    landings: &[u8],
+) -> String {
+    let mark = Corner::at(i64::from(mark.x), i64::from(mark.y));
+    whole(frames, answers, Some(Carried { mark, landings: landings::landings(landings) }))
+}
+
+/// A mark, and where it lands in each pair.
+struct Carried {
+    mark: Corner,
+    landings: Vec<Landing>,
+}
+
+fn whole(frames: &[u8], answers: Option<&[u8]>, carried: Option<Carried>) -> String {
     let frames = reading::frames(frames);
     let known = answers.is_some();
     let answers = answers.map_or(Vec::new(), reading::answers);
-    let mut page = Page::default();
+    let mut page = Page { carried, ..Page::default() };
     page.head(&frames, &answers, known);
     for (k, pair) in frames.pairs.iter().enumerate().take(MOST_PAIRS) {
         page.begin(&format!("Pair {}", k + 1));
-        page.pair(pair, answers.get(k));
+        page.pair(k, pair, answers.get(k));
     }
     if frames.pairs.len() > MOST_PAIRS {
         page.more(frames.pairs.len() - MOST_PAIRS);
@@ -49,6 +73,7 @@ pub fn page(frames: &[u8], answers: Option<&[u8]>) -> String {
 
 #[derive(Default)]
 struct Page {
+    carried: Option<Carried>,
     title: String,
     /// What the page tells, for those who hear it.
     told: Vec<String>,
@@ -140,10 +165,10 @@ impl Page {
         }
     }
 
-    fn pair(&mut self, pair: &[Drawing; 2], answer: Option<&Answer>) {
+    fn pair(&mut self, k: usize, pair: &[Drawing; 2], answer: Option<&Answer>) {
         let wrong = match answer {
             Some(Answer::Cut(pieces)) if reading::fits(pieces, pair) => {
-                return self.given(pieces, pair);
+                return self.given(k, pieces, pair);
             }
             Some(Answer::Refused(number)) => return self.refused(*number, pair),
             Some(Answer::Cut(_)) => words::UNFIT,
@@ -156,7 +181,7 @@ impl Page {
         self.drawings([Some(first), Some(second)], [Content::Refused(&Marks::Nothing); 2]);
     }
 
-    fn given(&mut self, pieces: &[Piece], [first, second]: &[Drawing; 2]) {
+    fn given(&mut self, k: usize, pieces: &[Piece], [first, second]: &[Drawing; 2]) {
         let n = first.len();
         let words = format!(
             "{} ({}, {}, {})",
@@ -166,10 +191,28 @@ impl Page {
             counted(pieces.len(), "piece")
         );
         self.say("given", &words);
+        let marks = self.carry(k);
         let colours = colours::numbers(pieces);
-        let content = Content::Cut(pieces, &colours);
-        self.drawings([Some(first), Some(second)], [content, content]);
+        let contents = marks.map(|mark| Content::Cut(pieces, &colours, mark));
+        self.drawings([Some(first), Some(second)], contents);
         self.pieces(pieces, &colours);
+    }
+
+    /// Says where the mark lands in pair k. What is to be drawn of it: the mark in the first
+    /// drawing, its place in the second.
+    fn carry(&mut self, k: usize) -> [Option<[f64; 2]>; 2] {
+        let Some(Carried { mark, landings }) = &self.carried else {
+            return [None, None];
+        };
+        let landing = landings.get(k);
+        let (here, said) = ([mark.x as f64, mark.y as f64], landings::said(*mark, landing));
+        let marks = match landing {
+            Some(Landing::Place(place)) => [Some(here), Some(landings::drawn(place))],
+            Some(Landing::OnNoPiece) => [Some(here), None],
+            _ => [None, None],
+        };
+        self.note(&said);
+        marks
     }
 
     fn refused(&mut self, number: u8, pair: &[Drawing; 2]) {
@@ -274,7 +317,8 @@ impl Page {
         let [width, height] = [WIDTH, height].map(svg::number);
         let title = svg::escaped(&self.title);
         let told = svg::escaped(&self.told.join(" "));
-        let style = include_str!("style.css");
+        let carried = self.carried.map_or("", |_| include_str!("carried.css"));
+        let style = [include_str!("style.css"), carried].concat();
         let paper = svg::element(
             "rect",
             "paper",

@@ -96,6 +96,16 @@ impl Scale {
         };
         drawing.iter().map(placed).collect()
     }
+
+    /// Any point of the drawing's plane, with the same origin, unless it is further off the drawing
+    /// than the margin.
+    pub fn spot(&self, [x, y]: [f64; 2], origin: Point, margin: f64) -> Option<Point> {
+        let (size, right) = (self.size(), (x - self.left as f64) * self.by[0]);
+        let down = (self.top as f64 - y) * self.by[1];
+        let near = |at: f64, length: f64| -margin <= at && at <= length + margin;
+        (near(right, size.x) && near(down, size.y))
+            .then(|| point(origin.x + right, origin.y + down))
+    }
 }
 
 /// The least and the greatest; 0 and 0 of none.

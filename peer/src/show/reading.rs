@@ -117,7 +117,7 @@ fn pieces(count: u8, told: &[u8]) -> Option<Vec<Piece>> {
 }
 
 /// The beginning of the line, with a question mark for each byte that is no plain symbol.
-fn printable(line: &[u8]) -> String {
+pub fn printable(line: &[u8]) -> String {
     let most = 40;
     let plain = |&byte: &u8| match byte {
         b' '..=b'~' => char::from(byte),

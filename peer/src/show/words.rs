@@ -21,6 +21,15 @@ pub fn unclear(line: &str) -> String {
     format!("This is no answer: {line}")
 }
 
+/// What is said of a mark that does not land, and of a line that is none for its pair.
+pub const MARK_OUT_OF_RANGE: &str = "10: the mark has a coordinate out of range";
+pub const UNFIT_LANDING: &str = "What is said of the mark does not fit the pair.";
+pub const MISSING_LANDING: &str = "Nothing is said of the mark in this pair.";
+
+pub fn unclear_landing(line: &str) -> String {
+    format!("This says nothing of a mark: {line}")
+}
+
 /// Says that there are so many answers more than pairs.
 pub fn surplus(lines: usize) -> String {
     format!("The answers go on for {} more.", counted(lines, "line"))
@@ -43,6 +52,16 @@ pub fn grouped(number: i64) -> String {
         text.push(digit);
     }
     text
+}
+
+/// A number with two decimals at most, its whole part in groups of three digits.
+pub fn rounded(number: f64) -> String {
+    let hundredths = (number * 100.0).round() as i64;
+    let sign = if hundredths < 0 { "-" } else { "" };
+    let (whole, part) = (hundredths.abs() / 100, hundredths.abs() % 100);
+    let decimals = format!(".{part:02}");
+    let decimals = decimals.trim_end_matches('0').trim_end_matches('.');
+    format!("{sign}{}{decimals}", grouped(whole))
 }
 
 /// Rising numbers, three and more that follow each other as a span: "0-3, 5".

@@ -2,6 +2,7 @@
 //! has is told in this project's README.md.
 
 use peer::desks::ROW;
+use peer::marks::{Axis, Mark};
 
 macro_rules! data {
     ($path:literal) => {
@@ -95,6 +96,49 @@ fn call(line: &'static str) -> Call {
     };
     assert_eq!(words.next(), None, "{}", call.name);
     call
+}
+
+/// A call that carries a mark, and what must come back.
+pub struct Marked {
+    pub name: &'static str,
+    pub first: Vec<i32>,
+    pub second: Vec<i32>,
+    pub room: usize,
+    pub mark: Mark,
+    pub number: u8,
+    pub pieces: usize,
+    pub bytes: Vec<u8>,
+    pub lands: u8,
+    pub axes: [Axis; 2],
+}
+
+pub fn marks() -> Vec<Marked> {
+    data!("test_marks/data/marks.txt").lines().map(marked).collect()
+}
+
+fn marked(line: &'static str) -> Marked {
+    let words = &mut line.split_whitespace();
+    let marked = Marked {
+        name: words.next().expect("a line is empty"),
+        first: list(words),
+        second: list(words),
+        room: number(words),
+        mark: Mark { x: number(words), y: number(words) },
+        number: number(words),
+        pieces: number(words),
+        bytes: list(words),
+        lands: number(words),
+        axes: [axis(words), axis(words)],
+    };
+    assert_eq!(words.next(), None, "{}", marked.name);
+    marked
+}
+
+/// The step, then the bits of the rest in four numbers of 16 bits, high first.
+fn axis(words: &mut dyn Iterator<Item = &str>) -> Axis {
+    let step = number(words);
+    let bits = (0..4).fold(0, |bits, _| bits << 16 | u64::from(number::<u16>(words)));
+    Axis { step, rest: f64::from_bits(bits) }
 }
 
 /// A call of the search: cells of two tables in rows of 64, the room, and what must come back.

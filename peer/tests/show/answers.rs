@@ -34,7 +34,7 @@ fn told(answer: &[u8]) -> Vec<Vec<usize>> {
 }
 
 /// The drawings of a pair's two lines.
-fn drawn(pair: &str) -> Vec<Vec<Corner>> {
+pub fn drawn(pair: &str) -> Vec<Vec<Corner>> {
     let drawing = |line: &str| {
         let bytes = bytes(line);
         let number = |b: &[u8]| i32::from_be_bytes([b[0], b[1], b[2], 0]) >> 8;

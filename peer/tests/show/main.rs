@@ -1,6 +1,7 @@
 //! The page that shows drawings and answers (src/show).
 
 mod answers;
+mod carried;
 mod hostile;
 mod outlines;
 // Pages are drawn of the frames only.

@@ -1,9 +1,12 @@
 //! The program, and what other files say of it: the README's words, the pictures.
 
+use crate::answers::drawn;
 use crate::sheet::assert_sound;
 use crate::{pair, H, TWO, Z};
 use peer::frames;
-use peer::show::{page, words};
+use peer::marks::{carry, Mark};
+use peer::pairs::list;
+use peer::show::{page, page_with_mark, words};
 use std::io::Write;
 use std::path::Path;
 use std::process::{Command, Stdio};
@@ -28,8 +31,26 @@ fn the_program() {
     assert_eq!(run(&["--answers", answers.to_str().unwrap()]), (Some(0), page(Some(TWO))));
     assert_eq!(run(&[]), (Some(0), page(None)));
     assert_eq!(run(&["--answers", "no such file"]), (Some(1), String::new()));
-    for words in [&["--answers"][..], &["page.svg"], &["--answers", "a", "b"]] {
-        assert_eq!(run(words), (Some(2), String::new()));
+    let landings = Path::new(env!("CARGO_TARGET_TMPDIR")).join("landings");
+    std::fs::write(&landings, "0 8 0 4 0\n").unwrap();
+    let [answers, landings] = [&answers, &landings].map(|path| path.to_str().unwrap());
+    let mark = Mark { x: -4, y: 2 };
+    let marked = page_with_mark(&pair(&Z, &H), Some(TWO.as_bytes()), mark, b"0 8 0 4 0\n");
+    let words = ["--mark", "-4,2", "--answers", answers, "--landings", landings];
+    assert_eq!(run(&words), (Some(0), marked));
+    assert_eq!(run(&["--mark", "4,2", "--landings", "no such file"]), (Some(1), String::new()));
+    for words in [
+        &["--answers"][..],
+        &["page.svg"],
+        &["--answers", "a", "b"],
+        &["--answers", answers, "--answers", answers],
+        &["--mark", "4,2"],
+        &["--landings", landings],
+        &["--mark", "4", "--landings", landings],
+        &["--mark", "4,0.5", "--landings", landings],
+        &["--mark", "4,+2", "--landings", landings],
+    ] {
+        assert_eq!(run(words), (Some(2), String::new()), "{words:?}");
     }
 }
 
@@ -71,4 +92,22 @@ fn the_pictures_are_of_today() {
         assert!(page.contains(said));
         assert!(std::fs::read_to_string(file("svg")).unwrap() == page, "{name}.svg is another");
     }
+}
+
+/// The fox's eye, carried from pose to pose, is where the peer puts it.
+#[test]
+fn the_eye_is_of_today() {
+    let file = |name: &str| above().join("docs/pictures").join(name);
+    let Ok(fox) = std::fs::read_to_string(file("fox.hex")) else {
+        return;
+    };
+    let lists: Vec<Vec<i32>> = drawn(&fox).iter().map(|drawing| list(drawing)).collect();
+    let eye = Mark { x: 76, y: 250 };
+    let place = carry(&lists[0], &lists[1], eye, &mut [0; 310]).place.expect("an eye in the head");
+    let [x, y] = place.map(|axis| format!("{} {}", axis.step, axis.rest.to_bits()));
+    let (answers, line) = (frames::run(fox.as_bytes()), format!("0 {x} {y}\n"));
+    let page = page_with_mark(fox.as_bytes(), Some(&answers), eye, line.as_bytes());
+    assert_sound(&page);
+    assert!(page.contains("The mark at (76; 250), drawn as a diamond, lands at (85.16; 151.22)."));
+    assert!(std::fs::read_to_string(file("eye.svg")).unwrap() == page, "eye.svg is another");
 }

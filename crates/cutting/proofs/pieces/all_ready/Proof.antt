@@ -4,7 +4,7 @@ use Prim.Native.Nat.{_+_, _-_, _≤_}
 use lib.ListN.{length}
 use native.Mathlib.Omega.{arith}
 use Rattle.limits.specs.Limits.{all-cells}
-use Rattle.cutting.specs.Marks.{Lanes}
+use Rattle.cutting.specs.Tracing.{Lanes}
 use Rattle.cutting.proofs.Relaid.{lanes-at}
 use Rattle.cutting.proofs.pieces.all_ready.Statement.{statement}
 use Rattle.cutting.proofs.pieces.all_ready.Tie as tie

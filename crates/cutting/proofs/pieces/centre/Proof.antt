@@ -1,7 +1,7 @@
 -- `pieces::centre`: the lowest takes every corner, or the pick is made of all.
 use native.Mathlib.Omega.{arith}
 use borrow.Author.Needs.{needs}
-use Rattle.cutting.proofs.Tracing.{picked-as, lowest-picked}
+use Rattle.cutting.proofs.Traced.{picked-as, lowest-picked}
 use Rattle.cutting.proofs.Relaid.{lanes-lowest}
 use Rattle.cutting.proofs.pieces.centre.Statement.{statement}
 use Rattle.cutting.proofs.pieces.centre.Tie as tie

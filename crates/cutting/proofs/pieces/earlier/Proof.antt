@@ -5,7 +5,7 @@ use native.Mathlib.Omega.{arith}
 use borrow.Author.Needs.{needs}
 use Rattle.rules.specs.Follow.{rest-end}
 use Rattle.rules.specs.Choice.{less}
-use Rattle.cutting.specs.Marks.{restIn}
+use Rattle.cutting.specs.Tracing.{restIn}
 use Rattle.cutting.proofs.Corners.{less-on, less-at, less-end}
 use Rattle.cutting.proofs.pieces.earlier.Statement.{statement}
 use Rattle.cutting.proofs.pieces.earlier.Tie as tie

@@ -4,7 +4,7 @@ use Prim.Native.Nat.{ℕ, suc, _≤_, _<_, _-_}
 use native.Mathlib.Omega.{arith}
 use borrow.Author.Needs.{needs}
 use borrow.Author.Count.{below-more}
-use Rattle.cutting.specs.Marks.{nextIn}
+use Rattle.cutting.specs.Tracing.{nextIn}
 use Rattle.cutting.proofs.Values.{clash}
 use Rattle.cutting.proofs.pieces.every.Statement.{statement}
 use Rattle.cutting.proofs.pieces.every.Tie as tie

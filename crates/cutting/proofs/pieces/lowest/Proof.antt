@@ -5,7 +5,7 @@ use Prim.Native.Nat.{ℕ, _≤_, _<_, _-_}
 use native.Mathlib.Omega.{arith}
 use borrow.Author.Needs.{needs}
 use borrow.Author.Count.{below-more}
-use Rattle.cutting.specs.Marks.{fitsIn}
+use Rattle.cutting.specs.Tracing.{fitsIn}
 use Rattle.cutting.proofs.pieces.lowest.Statement.{statement}
 use Rattle.cutting.proofs.pieces.lowest.Tie as tie
 
