@@ -1,5 +1,5 @@
--- A pair of whole numbers on a segment: told by a turn and a product, the segment turned round, and what other
--- segments share there.
+-- A point on a segment: the segment turned round. And a pair of whole numbers on it: what other segments share there,
+-- and that a turn and a product tell it.
 use mathlib.Core.Path.{_≡_, refl}
 use mathlib.Core.List.{[], _∷_}
 use lib.IntN.{ℤ, pos, _-ℤ_, _*ℤ_}
@@ -7,55 +7,48 @@ use lib.Signed.{_≤ℤ_, _<ℤ_}
 use Rattle.whole.specs.Ring.{E, v, _:+_, _:-_, _:*_, neg, ring1, ring2, by-ring}
 use Rattle.whole.specs.Order.{Nonneg, nonneg-pos, positive-nonneg, zero-cancel, le-sub, sub-le}
 use Rattle.drawing.specs.Drawing.{Point, Turn, Shared, SharedOnlyAt}
-use Rattle.drawing.specs.InOrOn.{spot, OnSegment}
+use Rattle.drawing.specs.InOrOn.{Spot, spot, OnSegment}
+use Rattle.drawing.specs.Passing.{top}
 use Rattle.drawing.specs.Segments.{Dot}
 use Rattle.drawing.specs.Quick.{on-line}
-use Rattle.drawing.specs.Spell.{A, B, C, D, P, Q, R, O, I, env, TurnE, At, ab-x, ab-y}
+use Rattle.drawing.specs.Spell.{A, B, C, D, P, Q, R, O, I, env, At, ab-x, ab-y}
 
--- A, B and C spell a, b and the point e, which P and Q name on ab
+-- A and B spell the ends a and b, C and R the point, which P and Q name on ab
 abbrev on-abx : E
-on-abx = I :* At Q (A .x) P (B .x)
+on-abx = At Q (A .x) P (B .x)
 
 abbrev on-aby : E
-on-aby = I :* At Q (A .y) P (B .y)
+on-aby = At Q (A .y) P (B .y)
 
-module _ {e a b : Point} (o : OnSegment (spot e) a b) where
-  pub on-turned : OnSegment (spot e) b a
-  on-turned =
-      let ρ = env a b e e (o .p) (o .q) (pos 0) in
-      record {
-        p = o .q -ℤ o .p;
-        q = o .q;
-        q-above = o .q-above;
-        p-from = le-sub (o .p-to);
-        p-to = sub-le (by-ring ρ Nonneg P (Q :- (Q :- P)) refl (o .p-from));
-        on-x = ring1 ρ (I :* At Q (B .x) (Q :- P) (A .x)) (Q :* C .x) I on-abx (Q :* C .x) (o .on-x) refl;
-        on-y = ring1 ρ (I :* At Q (B .y) (Q :- P) (A .y)) (Q :* C .y) I on-aby (Q :* C .y) (o .on-y) refl;
-      }
+pub on-turned : {z : Spot} {a b : Point} → OnSegment z a b → OnSegment z b a
+on-turned {z} {a} {b} o =
+    let ρ = env a b (top z) (top z) (o .p) (o .q) (z .r) in
+    record {
+      p = o .q -ℤ o .p;
+      q = o .q;
+      q-above = o .q-above;
+      p-from = le-sub (o .p-to);
+      p-to = sub-le (by-ring ρ Nonneg P (Q :- (Q :- P)) refl (o .p-from));
+      on-x = ring1 ρ (R :* At Q (B .x) (Q :- P) (A .x)) (Q :* C .x) I (R :* on-abx) (Q :* C .x) (o .on-x) refl;
+      on-y = ring1 ρ (R :* At Q (B .y) (Q :- P) (A .y)) (Q :* C .y) I (R :* on-aby) (Q :* C .y) (o .on-y) refl;
+    }
 
-  -- it does not turn from the segment
-  pub no-turn : Turn e a b ≡ pos 0
-  no-turn =
-      zero-cancel (o .q-above)
-      (ring2 (env a b e e (o .p) (o .q) (pos 0)) (Q :* TurnE C A B) O
-      (B .y :- A .y) on-abx (Q :* C .x) (A .x :- B .x) on-aby (Q :* C .y) (o .on-x) (o .on-y) refl)
-
-  -- a segment that begins there shares it
-  pub on-shared : (d : Point) → Shared a b e d
-  on-shared d =
-      let ρ = env a b e d (o .p) (o .q) (pos 0) in
-      record {
-        p = o .p;
-        q = pos 0;
-        r = o .q;
-        r-above = o .q-above;
-        p-from = o .p-from;
-        p-to = o .p-to;
-        q-from = nonneg-pos 0;
-        q-to = positive-nonneg (o .q-above);
-        same-x = ring1 ρ (At Q (A .x) P (B .x)) (At Q (C .x) O (D .x)) I on-abx (Q :* C .x) (o .on-x) refl;
-        same-y = ring1 ρ (At Q (A .y) P (B .y)) (At Q (C .y) O (D .y)) I on-aby (Q :* C .y) (o .on-y) refl;
-      }
+-- ---- a segment that begins at a pair of whole numbers of ab shares it
+pub on-shared : {e a b : Point} → OnSegment (spot e) a b → (d : Point) → Shared a b e d
+on-shared {e} {a} {b} o d =
+    let ρ = env a b e d (o .p) (o .q) (pos 0) in
+    record {
+      p = o .p;
+      q = pos 0;
+      r = o .q;
+      r-above = o .q-above;
+      p-from = o .p-from;
+      p-to = o .p-to;
+      q-from = nonneg-pos 0;
+      q-to = positive-nonneg (o .q-above);
+      same-x = ring1 ρ on-abx (At Q (C .x) O (D .x)) I (I :* on-abx) (Q :* C .x) (o .on-x) refl;
+      same-y = ring1 ρ on-aby (At Q (C .y) O (D .y)) I (I :* on-aby) (Q :* C .y) (o .on-y) refl;
+    }
 
 -- and where only e is shared, the point is e
 same-number : {q s e c : ℤ} → pos 0 <ℤ q → s ≡ q *ℤ e → pos 1 *ℤ s ≡ q *ℤ c → c ≡ e

@@ -8,9 +8,10 @@ use native.Mathlib.Decide.{ℕ-discrete}
 use lib.IntN.{ℤ}
 use Rattle.drawing.specs.Drawing.{corner, corners, Simple, Sees}
 use Rattle.drawing.specs.InOrOn.{Spot, spot, OnSegment}
+use Rattle.drawing.specs.OnSegment.{on-turned}
 use Rattle.drawing.specs.Seeing.{sees-mutual}
 use Rattle.drawing.specs.Unbroken.{none-between}
-use Rattle.drawing.specs.TwoPoints.{Differ, turned, same-end, some-end}
+use Rattle.drawing.specs.TwoPoints.{Differ, same-end, some-end}
 
 module _ (d : List ℤ) (s : Simple d) (z w : Spot) (f : Differ z w) where
   -- two corners that see each other
@@ -25,7 +26,7 @@ module _ (d : List ℤ) (s : Simple d) (z w : Spot) (f : Differ z w) where
   Has x y = OnSegment z (corner d x) (corner d y) × OnSegment w (corner d x) (corner d y)
 
   back : (x y : ℕ) → Has x y → Has y x
-  back x y h = (turned z (corner d x) (corner d y) (h .0), turned w (corner d x) (corner d y) (h .1))
+  back x y h = (on-turned (h .0), on-turned (h .1))
 
   -- corner k is on it
   abbrev At : ℕ → ℕ → ℕ → Type 0

@@ -115,23 +115,6 @@ module _ (z w : Spot) where
       (con (pos 1)) ((v 4 :- v 2) :* v 7 :- (v 5 :- v 3) :* v 6) (con (pos 0)) e g refl
 
 -- ---- a point of two segments is shared
-pub turned : (z : Spot) (a b : Point) → OnSegment z a b → OnSegment z b a
-turned z a b o =
-    let ρ = env z a b (o .p) (o .q) in
-    record {
-      p = o .q -ℤ o .p;
-      q = o .q;
-      q-above = o .q-above;
-      p-from = le-sub (o .p-to);
-      p-to = sub-le (by-ring ρ Nonneg (v 6) (v 7 :- (v 7 :- v 6)) refl (o .p-from));
-      on-x =
-          ring1 ρ (v 8 :* (v 7 :* v 2 :+ (v 7 :- v 6) :* (v 0 :- v 2))) (v 7 :* v 4) (con (pos 1))
-          (v 8 :* (v 7 :* v 0 :+ v 6 :* (v 2 :- v 0))) (v 7 :* v 4) (o .on-x) refl;
-      on-y =
-          ring1 ρ (v 8 :* (v 7 :* v 3 :+ (v 7 :- v 6) :* (v 1 :- v 3))) (v 7 :* v 5) (con (pos 1))
-          (v 8 :* (v 7 :* v 1 :+ v 6 :* (v 3 :- v 1))) (v 7 :* v 5) (o .on-y) refl;
-    }
-
 one-coordinate : (r q p l k a b c d x : ℤ) → Positive r → r *ℤ (q *ℤ a +ℤ p *ℤ (b -ℤ a)) ≡ q *ℤ x →
     r *ℤ (l *ℤ c +ℤ k *ℤ (d -ℤ c)) ≡ l *ℤ x →
     q *ℤ l *ℤ a +ℤ p *ℤ l *ℤ (b -ℤ a) ≡ q *ℤ l *ℤ c +ℤ k *ℤ q *ℤ (d -ℤ c)
