@@ -112,11 +112,12 @@ fn a_mark_in_the_last_wedge_is_measured() {
 
 #[test]
 fn a_table_of_marks_has_what_carrying_takes_over_the_answer() {
-    let row = carrying::Row { kind: "convex", n: 64, times: [100.0, 102.0, 101.996] };
+    // The machine is twice as slow in the second turn, and stops for a while in the third.
+    let turns = vec![[100.0, 102.0, 102.0], [200.0, 204.0, 203.99], [100.0, 100.0, 900.0]];
     let expected = "\
 | pairs | n | answer | out of range | carried | over answer | over out of range |
 | --- | --- | --- | --- | --- | --- | --- |
-| convex | 64 | 100.00 | 102.00 | 102.00 | 2.0 % | 0.0 % |
+| convex | 64 | 100.00 | 102.00 | 203.99 | 2.0 % | 0.0 % |
 ";
-    assert_eq!(carrying::table(&[row]), expected);
+    assert_eq!(carrying::table(&[carrying::Row { kind: "convex", n: 64, turns }]), expected);
 }

@@ -51,7 +51,7 @@ impl Runner<'_, '_> {
 }
 
 /// How many passes over the pairs take as long as a turn.
-fn passes(turns: Turns, work: &mut Work, pairs: usize) -> usize {
+pub fn passes(turns: Turns, work: &mut Work, pairs: usize) -> usize {
     let mut passes = 1;
     while time(work, pairs, passes) < turns.length {
         passes *= 2;
@@ -60,7 +60,7 @@ fn passes(turns: Turns, work: &mut Work, pairs: usize) -> usize {
 }
 
 /// The time of so many passes over the pairs.
-fn time(work: &mut Work, pairs: usize, passes: usize) -> Duration {
+pub fn time(work: &mut Work, pairs: usize, passes: usize) -> Duration {
     let start = Instant::now();
     for _ in 0..passes {
         (0..pairs).for_each(|k| work(black_box(k)));

@@ -89,16 +89,19 @@ fn tables(libraries: &Libraries) -> Vec<Two> {
 
 /// The product's marks at the most corners, on the kinds of pairs that get a cutting.
 fn print_carrying(turns: Turns, product: &Library) -> Result<(), String> {
-    let mut lines = Vec::new();
+    let mut rows = Vec::new();
     for (kind, pairs) in rows::KINDS {
         eprintln!("{kind}, {MOST_CORNERS} corners, a mark");
-        let times = carrying::measure(turns, product, &pairs(MOST_CORNERS))?;
-        lines.extend(times.map(|times| carrying::Row { kind, n: MOST_CORNERS, times }));
+        let turns = carrying::measure(turns, product, &pairs(MOST_CORNERS))?;
+        if !turns.is_empty() {
+            rows.push(carrying::Row { kind, n: MOST_CORNERS, turns });
+        }
     }
     println!(
-        "Microseconds a pair: its answer; a mark out of range, for which the pair is answered and no \
-         wedge is looked at; and a mark in the wedge that is looked at last.\n\n{}",
-        carrying::table(&lines)
+        "Microseconds a pair, the middle of all turns: its answer; a mark out of range, for which the \
+         pair is answered and no wedge is looked at; and a mark in the wedge that is looked at \
+         last.\n\n{}",
+        carrying::table(&rows)
     );
     Ok(())
 }
