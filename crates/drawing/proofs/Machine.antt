@@ -1,22 +1,24 @@
--- Signed numbers of the machine: what a comparison of two of them tells, and that the products of coordinates'
--- differences fit.
+-- Signed numbers of the machine: what a comparison of two of them tells, coordinates as they are read and held, and
+-- that the products of their differences fit.
 use mathlib.Core.Path.{_≡_, refl, sym, ap, _∙_, subst}
 use mathlib.Core.Bool.{Bool, true, false}
 use mathlib.Core.Logic.{_⊎_, inl, inr}
+use mathlib.Core.List.{List}
 use Prim.Native.Nat.{ℕ, _+_, _*_, _^_, _≤_, _<_}
 use native.Mathlib.Omega.{arith}
 use lib.Bits.{bitOr}
 use lib.Dec.{eqb}
 use lib.IntN.{ℤ, pos, natAbs, _-ℤ_, _*ℤ_}
+use lib.ListN.{getD, length}
 use lib.Signed.{mag, leZ, ltZ, _≤ℤ_, _<ℤ_}
-use mir.Syntax.{w64}
+use mir.Syntax.{w32, w64}
 use mir.Val.{toZ, ofZ, boolByte}
 use mir.Facts.{toZ-ofZ}
 use borrow.Author.Needs.{sfits-of}
 use Rattle.whole.specs.Masks.{Digit, Made, made-room}
-use Rattle.whole.specs.Bounds.{Val, fit, par, loc, less, times}
+use Rattle.whole.specs.Bounds.{Val, fit, par, loc, less, times, near-of}
 use Rattle.limits.specs.Limits.{furthest}
-use Rattle.drawing.specs.Drawing.{Point, Turn}
+use Rattle.drawing.specs.Drawing.{Point, InRange, Turn}
 use Rattle.drawing.specs.Segments.{Dot}
 use Rattle.drawing.specs.Meeting.{Reached, Meets}
 use Rattle.drawing.specs.declared.segment.Met.{Met}
@@ -49,7 +51,14 @@ pub by-nought : {r x : ℤ} → mag r < 2 ^ 63 → r ≡ x → Tells (eqb (ofZ w
 by-nought {r} ok is =
     as-well (eq-tells (ofZ w64 r) 0) (λ e. same-bits (held ok is) refl e) (λ e. ap (ofZ w64) (is ∙ e))
 
--- a coordinate
+-- a coordinate of a list, read
+abbrev pub Coordinate : List ℤ → ℕ → Type 0
+Coordinate d k = Val (toZ w32 (ofZ w32 (getD d k (pos 0)))) (getD d k (pos 0)) furthest
+
+pub coordinate : (d : List ℤ) (k : ℕ) → InRange d → k < length d → mag (getD d k (pos 0)) < 2 ^ 31 → Coordinate d k
+coordinate d k l h f = par (sfits-of f) (near-of furthest (getD d k (pos 0)) (l .low k h) (l .high k h))
+
+-- and one that is held
 own : {x : ℤ} → natAbs x ≤ furthest → Val (back x) x furthest
 own {x} h = par (fit {z = x} tt (record { is = refl; below = h })) h
 
@@ -72,6 +81,17 @@ module _ {p : Place} (h : Far p) where
 pub product : {z x u y s a t b : ℤ} → Val z x furthest → Val u y furthest → Val s a furthest → Val t b furthest →
     Val (back (z -ℤ u) *ℤ back (s -ℤ t)) ((x -ℤ y) *ℤ (a -ℤ b)) 4000000000000
 product h k m n = times (loc w64 tt (less h k)) (loc w64 tt (less m n))
+
+-- 01's turn, of points within the limits
+abbrev machine-turn : Point → Point → Point → ℤ
+machine-turn a b c =
+    back (back (back (b .x) -ℤ back (a .x)) *ℤ back (back (c .y) -ℤ back (a .y)))
+    -ℤ back (back (back (b .y) -ℤ back (a .y)) *ℤ back (back (c .x) -ℤ back (a .x)))
+
+pub turn-held : {a b c : Point} → Close a → Close b → Close c → Val (machine-turn a b c) (Turn a b c) 8000000000000
+turn-held h k l =
+    less (loc w64 tt (product (the-x k) (the-x h) (the-y l) (the-y h)))
+    (loc w64 tt (product (the-y k) (the-y h) (the-x l) (the-x h)))
 
 -- ---- of points that are known
 module _ {a b c p q r : Point} (e : a ≡ p) (f : b ≡ q) (g : c ≡ r) where

@@ -6,7 +6,7 @@ use Prim.Native.Nat.{ℕ, zero, suc, _+_, _*_, _<_}
 use native.Mathlib.Omega.{arith}
 use lib.Dec.{T}
 use Rattle.drawing.specs.InOrOn.{Count, OddCount}
-use Rattle.drawing.specs.Tells.{Tells}
+use Rattle.drawing.specs.Tells.{Tells, is-yes, is-no}
 
 infixl 36 _⊕_
 abbrev pub _⊕_ : Bool → Bool → Bool
@@ -40,14 +40,6 @@ odd-parity (suc (suc m)) t =
     (suc (k .0), omega (arith, k .1))
 
 -- ---- a test that tells of each
-is-yes : {b : Bool} {Q : Type 0} → Tells b Q → Q → b ≡ true
-is-yes {b = true} t q = refl
-is-yes {b = false} t q = absurd (t .told q)
-
-is-no : {b : Bool} {Q : Type 0} → Tells b Q → ¬ Q → b ≡ false
-is-no {b = true} t n = absurd (n (t .sure tt))
-is-no {b = false} t n = refl
-
 module _ (P : ℕ → Type 0) where
   not-counted : (n m : ℕ) → ¬ P n → Count P n m → Count P (suc n) m
   not-counted n zero h c = (h, c)

@@ -13,14 +13,22 @@ use Rattle.drawing.specs.Seeing.{sees-mutual}
 use Rattle.drawing.specs.Unbroken.{none-between}
 use Rattle.drawing.specs.TwoPoints.{Differ, same-end, some-end}
 
-module _ (d : List ℤ) (s : Simple d) (z w : Spot) (f : Differ z w) where
-  -- two corners that see each other
-  pub record SightLine (x y : ℕ) : Type 0 where
-    pub x-below : x < corners d
-    pub y-below : y < corners d
-    pub apart : ¬ (x ≡ y)
-    pub sees : Sees d x y
+-- two corners that see each other
+pub record SightLine (d : List ℤ) (x y : ℕ) : Type 0 where
+  pub x-below : x < corners d
+  pub y-below : y < corners d
+  pub apart : ¬ (x ≡ y)
+  pub sees : Sees d x y
 
+line-back : (d : List ℤ) (x y : ℕ) → SightLine d x y → SightLine d y x
+line-back d x y l = record {
+  x-below = l .y-below;
+  y-below = l .x-below;
+  apart = λ e. l .apart (sym e);
+  sees = sees-mutual (l .sees);
+}
+
+module _ (d : List ℤ) (s : Simple d) (z w : Spot) (f : Differ z w) where
   -- both points are on their line
   abbrev pub Has : ℕ → ℕ → Type 0
   Has x y = OnSegment z (corner d x) (corner d y) × OnSegment w (corner d x) (corner d y)
@@ -32,7 +40,7 @@ module _ (d : List ℤ) (s : Simple d) (z w : Spot) (f : Differ z w) where
   abbrev At : ℕ → ℕ → ℕ → Type 0
   At k x y = OnSegment (spot (corner d k)) (corner d x) (corner d y)
 
-  an-end : (x y k : ℕ) → SightLine x y → k < corners d → At k x y → (k ≡ x) ⊎ (k ≡ y)
+  an-end : (x y k : ℕ) → SightLine d x y → k < corners d → At k x y → (k ≡ x) ⊎ (k ≡ y)
   an-end x y k l h o = go (ℕ-discrete k x) (ℕ-discrete k y)
     where
       go : Dec (k ≡ x) → Dec (k ≡ y) → (k ≡ x) ⊎ (k ≡ y)
@@ -40,7 +48,7 @@ module _ (d : List ℤ) (s : Simple d) (z w : Spot) (f : Differ z w) where
       go (no n) (yes e) = inr e
       go (no n) (no m) = absurd (none-between d s x y k (l .x-below) (l .y-below) h (l .apart) (l .sees) n m o)
 
-  from-one : (x y u : ℕ) → SightLine x y → SightLine x u → Has x y → Has x u → y ≡ u
+  from-one : (x y u : ℕ) → SightLine d x y → SightLine d x u → Has x y → Has x u → y ≡ u
   from-one x y u l m h k = go (same-end z w f (corner d x) (corner d y) (corner d u) (h .0) (h .1) (k .0) (k .1))
     where
       first : (y ≡ x) ⊎ (y ≡ u) → y ≡ u
@@ -55,33 +63,25 @@ module _ (d : List ℤ) (s : Simple d) (z w : Spot) (f : Differ z w) where
       go (inl o) = first (an-end x u y m (l .y-below) o)
       go (inr o) = second (an-end x y u l (m .y-below) o)
 
-  line-back : (x y : ℕ) → SightLine x y → SightLine y x
-  line-back x y l = record {
-    x-below = l .y-below;
-    y-below = l .x-below;
-    apart = λ e. l .apart (sym e);
-    sees = sees-mutual (l .sees);
-  }
-
   abbrev pub SameEnds : ℕ → ℕ → ℕ → ℕ → Type 0
   SameEnds x y u t = ((u ≡ x) × (t ≡ y)) ⊎ ((u ≡ y) × (t ≡ x))
 
-  module _ (x y u t : ℕ) (l : SightLine x y) (m : SightLine u t) (h : Has x y) (k : Has u t) where
+  module _ (x y u t : ℕ) (l : SightLine d x y) (m : SightLine d u t) (h : Has x y) (k : Has u t) where
     first-first : u ≡ x → SameEnds x y u t
-    first-first e = inl (e, sym (from-one x y t l (subst (λ i. SightLine i t) e m) h (subst (λ i. Has i t) e k)))
+    first-first e = inl (e, sym (from-one x y t l (subst (λ i. SightLine d i t) e m) h (subst (λ i. Has i t) e k)))
 
     first-second : u ≡ y → SameEnds x y u t
     first-second e =
         inr (
           e,
-          sym (from-one y x t (line-back x y l) (subst (λ i. SightLine i t) e m) (back x y h)
+          sym (from-one y x t (line-back d x y l) (subst (λ i. SightLine d i t) e m) (back x y h)
               (subst (λ i. Has i t) e k)),
         )
 
     second-first : t ≡ x → SameEnds x y u t
     second-first e =
         inr (
-          sym (from-one x y u l (subst (λ i. SightLine i u) e (line-back u t m)) h
+          sym (from-one x y u l (subst (λ i. SightLine d i u) e (line-back d u t m)) h
               (subst (λ i. Has i u) e (back u t k))),
           e,
         )
@@ -89,7 +89,7 @@ module _ (d : List ℤ) (s : Simple d) (z w : Spot) (f : Differ z w) where
     second-second : t ≡ y → SameEnds x y u t
     second-second e =
         inl (
-          sym (from-one y x u (line-back x y l) (subst (λ i. SightLine i u) e (line-back u t m)) (back x y h)
+          sym (from-one y x u (line-back d x y l) (subst (λ i. SightLine d i u) e (line-back d u t m)) (back x y h)
               (subst (λ i. Has i u) e (back u t k))),
           e,
         )

@@ -129,7 +129,7 @@ in-adds a b c e p =
     ((λ h. s .0 (in-lies a b c e h)), (λ h. lies-in a b c e (s .1 h)))
 
 -- ---- of a point that is in or on, all areas are turns with one sign s, which is 1 or -1
-pub record Signed (a b c e : Point) : Type 0 where
+pub record OneSign (a b c e : Point) : Type 0 where
   pub s : ℤ
   pub whole : pos (area a b c) ≡ s *ℤ Turn a b c
   pub of-a : pos (area e b c) ≡ s *ℤ Turn e b c
@@ -142,10 +142,10 @@ once z h = nonneg-size h ∙ ring (z ∷ []) (v 0) (I :* v 0) refl
 minus-once : (z : ℤ) → Nonneg (negℤ z) → pos (natAbs z) ≡ negsuc 0 *ℤ z
 minus-once z h = ap pos (sym (neg-size z)) ∙ nonneg-size h ∙ ring (z ∷ []) (neg (v 0)) (con (negsuc 0) :* v 0) refl
 
-pub in-signed : (a b c e : Point) → 0 < area a b c → InOrOn (triangle a b c) (spot e) → Signed a b c e
-in-signed a b c e p h = go (sign (Turn a b c))
+pub one-sign : (a b c e : Point) → 0 < area a b c → InOrOn (triangle a b c) (spot e) → OneSign a b c e
+one-sign a b c e p h = go (sign (Turn a b c))
   where
-    go : Sign (Turn a b c) → Signed a b c e
+    go : Sign (Turn a b c) → OneSign a b c e
     go (plus n) =
         let w = lies-weighs a b c e n .0 (in-lies a b c e h) in
         record {

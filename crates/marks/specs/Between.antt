@@ -11,7 +11,7 @@ use Rattle.drawing.specs.Drawing.{Point, corner, Turn}
 use Rattle.drawing.specs.Spell.{PointE, A, B, C, D, O, TurnE}
 use Rattle.marks.specs.Wedges.{Wedge}
 use Rattle.marks.specs.Lands.{across, upward, wedge-area, weighed, Holds, LandsBy}
-use Rattle.marks.specs.Areas.{in-signed}
+use Rattle.marks.specs.Areas.{one-sign}
 use Rattle.marks.specs.OneWay.{SameFraction, told-same}
 use Rattle.marks.specs.declared.Landing.{Landing}
 use Rattle.marks.specs.declared.Landing.the-variants.{Place, OnNoPiece}
@@ -61,7 +61,7 @@ module _ (first : List ℤ) (m : Point) (at : ℕ → ℤ) where
 
   own : (W : Wedge) → Holds first m W → Signed W (W .centre) (W .from) (W .to)
   own W h =
-      let t = in-signed (on (W .centre)) (on (W .from)) (on (W .to)) m (h .has-area) (h .in-or-on) in
+      let t = one-sign (on (W .centre)) (on (W .from)) (on (W .to)) m (h .has-area) (h .in-or-on) in
       record {
         s = t .s;
         over =

@@ -18,7 +18,7 @@ use Rattle.marks.specs.Lands.{area, across, upward, Holds, LandsBy, Land
 use Rattle.marks.specs.declared.Carried.{Carried}
 use Rattle.marks.specs.declared.Landing.{Landing}
 use Rattle.marks.specs.declared.Landing.the-variants.{Place, OnNoPiece}
-use Rattle.marks.specs.declared.wedge.Spot.{Spot}
+use Rattle.marks.specs.declared.wedge.Coordinates.{Coordinates}
 
 -- ---- the pair
 abbrev pub Refusal : ℕ → Carried → Type 0
@@ -41,7 +41,7 @@ pub record Pair (first second : List ℤ) : Type 0 where
   pub alike : corners second ≡ corners first
 
 -- ---- one wedge
-abbrev pub point : Spot → Point
+abbrev pub point : Coordinates → Point
 point p = record { x = p .x; y = p .y }
 
 -- twice the area of three points within the limits, and that times a coordinate
@@ -51,7 +51,7 @@ most-area = 8000000000000
 abbrev pub most-weighed : ℕ
 most-weighed = 8000000000000000000
 
-pub record IsCorner (d : List ℤ) (i : ℕ) (r : Spot) : Type 0 where
+pub record IsCorner (d : List ℤ) (i : ℕ) (r : Coordinates) : Type 0 where
   pub is : point r ≡ corner d i
   pub close : Close (point r)
 

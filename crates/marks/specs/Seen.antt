@@ -185,7 +185,7 @@ module _ (first second : List ℤ) (pair : SoundPair first second) {before : Lis
       one-line first (pair .first-sound .simple) z w f x y u t (line W i x y n p q) (line U j u t m r s) (a, b) (c, d)
     where
       line : (W : Wedge) → In W (wedges-given g) → (x y : ℕ) → ¬ (x ≡ y) → Of x W → Of y W →
-          SightLine first (pair .first-sound .simple) z w f x y
+          SightLine first x y
       line W i x y n p q =
           let h = two-see W i x y n p q in
           record { x-below = h .0; y-below = h .1; apart = n; sees = h .2 .0 }

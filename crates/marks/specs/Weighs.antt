@@ -20,6 +20,8 @@ use Rattle.whole.specs.Order.{le-sub, sub-le, lt-sub, Sign, plus, nought, minus
 use Rattle.drawing.specs.Drawing.{Point, Turn}
 use Rattle.drawing.specs.Passing.{higher, left}
 use Rattle.drawing.specs.Odd.{_⊕_}
+use Rattle.drawing.specs.Tells.{is-yes, is-no}
+use Rattle.drawing.specs.Tests.{lt-tells}
 use Rattle.drawing.specs.Spell.{A, B, C, D, P, Q, O, I, env, env4, TurnE, At}
 use Rattle.marks.specs.Lies.{On, crossings, Lies, round-lies}
 
@@ -52,18 +54,10 @@ test x y = go (ltZ x y) refl
     go false e = not-less (ltZ-no (subst (λ t. T (not t)) (sym e) tt))
 
 is-less : {x y : ℤ} → x <ℤ y → ltZ x y ≡ true
-is-less {x} {y} h = go (ltZ x y) (test x y)
-  where
-    go : (b : Bool) → Test x y b → b ≡ true
-    go true o = refl
-    go false (not-less k) = clashℤ h k
+is-less h = is-yes (lt-tells _ _) h
 
 is-not-less : {x y : ℤ} → y ≤ℤ x → ltZ x y ≡ false
-is-not-less {x} {y} h = go (ltZ x y) (test x y)
-  where
-    go : (b : Bool) → Test x y b → b ≡ false
-    go true (less k) = clashℤ k h
-    go false o = refl
+is-not-less h = is-no (lt-tells _ _) (λ k. clashℤ k h)
 
 -- ---- the corners from the next one on
 turn-round : (a b c : Point) → Positive (Turn a b c) → Positive (Turn b c a)

@@ -15,7 +15,7 @@ mod walk;
 mod wedge;
 
 use limits::FURTHEST;
-use wedge::Spot;
+use wedge::Coordinates;
 
 // One axis of a place: whole steps, rounded down also below zero, and the rest of a step.
 pub struct Axis {
@@ -69,7 +69,7 @@ fn landed(first: &[i32], second: &[i32], x: i32, y: i32, told: &[u8]) -> Landing
     requires { ⌜ Pair (now first) (now second) × MarkInRange (mark x y) × Read (corners (now first)) (now told) ⌝ }
     ensures { λ r. ⌜ Finds (now (first .entry)) (now (second .entry)) (mark x y) (now (told .entry)) r ⌝ }
 {
-    let m = Spot {
+    let m = Coordinates {
         x: x as i64,
         y: y as i64,
     };

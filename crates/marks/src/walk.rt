@@ -7,7 +7,7 @@ ghost use Rattle.drawing.specs.Parts.{Close};
 ghost use Rattle.marks.specs.Lands.{Lands};
 ghost use Rattle.marks.specs.Parts.{point, Pair, Piece, piece-fan, follow, is-place, Read, Finds};
 use crate::Landing;
-use crate::wedge::Spot;
+use crate::wedge::Coordinates;
 use crate::wedge::land;
 
 // A byte as a number.
@@ -39,7 +39,7 @@ fn on_a_piece(landing: Landing) -> bool
 
 // By the wedges of one piece. A corner with the centre itself makes no area: such a pair need not be told from a
 // wedge.
-fn within(first: &[i32], second: &[i32], m: Spot, piece: &[u8]) -> Landing
+fn within(first: &[i32], second: &[i32], m: Coordinates, piece: &[u8]) -> Landing
     requires { ⌜ Pair (now first) (now second) × Close (point m) × Piece (corners (now first)) (now piece) ⌝ }
     ensures { λ r. ⌜ Lands (now (first .entry)) (now (second .entry)) (point m) (piece-fan (now (piece .entry))) r ⌝ }
 {
@@ -56,7 +56,7 @@ fn within(first: &[i32], second: &[i32], m: Spot, piece: &[u8]) -> Landing
 }
 
 // By the wedges of the whole answer.
-pub fn find(first: &[i32], second: &[i32], m: Spot, told: &[u8]) -> Landing
+pub fn find(first: &[i32], second: &[i32], m: Coordinates, told: &[u8]) -> Landing
     requires { ⌜ Pair (now first) (now second) × Close (point m) × Read (corners (now first)) (now told) ⌝ }
     ensures { λ r. ⌜ Finds (now (first .entry)) (now (second .entry)) (point m) (now (told .entry)) r ⌝ }
 {

@@ -8,23 +8,23 @@ ghost use Rattle.marks.specs.Parts.{point, IsCorner, IsTurn, IsArea, Pai
 use crate::Landing;
 use crate::place::placed;
 
-pub struct Spot {
+pub struct Coordinates {
     pub x: i64,
     pub y: i64,
 }
 
-pub fn corner(xy: &[i32], i: usize) -> Spot
+pub fn corner(xy: &[i32], i: usize) -> Coordinates
     requires { ⌜ InRange (now xy) × (i < corners (now xy)) ⌝ }
     ensures { λ r. ⌜ IsCorner (now (xy .entry)) i r ⌝ }
 {
-    Spot {
+    Coordinates {
         x: xy[2 * i] as i64,
         y: xy[2 * i + 1] as i64,
     }
 }
 
 // 01's Turn(a, b, c): twice the area of three corners, above zero where they turn left.
-fn turn(a: Spot, b: Spot, c: Spot) -> i64
+fn turn(a: Coordinates, b: Coordinates, c: Coordinates) -> i64
     requires { ⌜ Close (point a) × Close (point b) × Close (point c) ⌝ }
     ensures { λ r. ⌜ IsTurn (point a) (point b) (point c) r ⌝ }
 {
@@ -32,7 +32,7 @@ fn turn(a: Spot, b: Spot, c: Spot) -> i64
 }
 
 // Twice the area, whichever way they turn.
-fn area(a: Spot, b: Spot, c: Spot) -> i64
+fn area(a: Coordinates, b: Coordinates, c: Coordinates) -> i64
     requires { ⌜ Close (point a) × Close (point b) × Close (point c) ⌝ }
     ensures { λ r. ⌜ IsArea (point a) (point b) (point c) r ⌝ }
 {
@@ -48,7 +48,7 @@ fn area(a: Spot, b: Spot, c: Spot) -> i64
 //          / m \                  t = area(m, c, a), the weight of b
 //         / / \ \
 //        c ------ a
-pub fn land(first: &[i32], second: &[i32], m: Spot, c: usize, a: usize, b: usize) -> Landing
+pub fn land(first: &[i32], second: &[i32], m: Coordinates, c: usize, a: usize, b: usize) -> Landing
     requires { ⌜ Pair (now first) (now second) × Close (point m) ⌝ }
     requires { ⌜ (c < corners (now first)) × (a < corners (now first)) × (b < corners (now first)) ⌝ }
     ensures { λ r. ⌜ Tried (now (first .entry)) (now (second .entry)) (point m) (wedge c a b) r ⌝ }

@@ -3,10 +3,10 @@
 use marks::Axis;
 use marks::Carried;
 use marks::Landing;
+use recorded::floats::bits;
 ghost use mathlib.Core.Path.{_≡_};
 ghost use mathlib.Core.List.{[], _∷_};
 ghost use Prim.Native.Nat.{_+_, _≤_};
-ghost use lib.Ieee.{binary64, toBits};
 ghost use lib.IntN.{natAbs};
 ghost use lib.ListN.{length};
 ghost use Rattle.questions.specs.Questions.{natural-text, whole-text, axis-text, landing-text, mark-line};
@@ -17,18 +17,6 @@ const BLANK: u8 = 32;
 pub const LINE_FEED: u8 = 10;
 
 const MINUS: u8 = 45;
-
-// The bits of what is no number; every other float has its own.
-const NO_NUMBER: u64 = 9221120237041090560;
-
-fn bits(x: f64) -> u64
-    ensures { λ r. ⌜ r ≡ toBits binary64 x ⌝ }
-{
-    if x != x {
-        return NO_NUMBER;
-    }
-    f64::to_bits(x)
-}
 
 fn put(byte: u8, out: &mut [u8], at: usize) -> usize
     requires { ⌜ at + 1 ≤ length (now out) ⌝ }

@@ -6,7 +6,7 @@ use lib.Dec.{leb, ltb}
 use lib.IntN.{ℤ, pos}
 use lib.ListN.{length, getD}
 use Rattle.recorded.specs.Decimals.{natural-at, bytes-listed, byte-in, wholes-listed, whole-in}
-use Rattle.recorded.specs.Lent.{mark}
+use Rattle.recorded.specs.Lent.{unwritten}
 use Rattle.recorded.specs.declared.decimals.Listed.{Listed}
 use Rattle.recorded.specs.declared.counted.Counted.{Counted}
 
@@ -50,7 +50,7 @@ list-in text at before =
 -- the buffer that a call must leave: the bytes told, and after them what each held before it was lent
 abbrev pub left-in : List ℕ → ℕ → ℕ → ℕ → ℕ
 left-in text at room =
-    in-front (up-to room (first-number text at)) (byte-in text (after-first text at)) mark
+    in-front (up-to room (first-number text at)) (byte-in text (after-first text at)) unwritten
 
 -- ---- the numbers read, as a list
 abbrev pub told : {A : Type 0} → (ℕ → A) → ℕ → List A

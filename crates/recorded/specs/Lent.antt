@@ -21,8 +21,8 @@ holds-unique nought item before after after′ x y = ext-getD nought after after
     same k h = let g = subst (λ n. k < n) (x .size) h in x .each k g ∙ sym (y .each k g)
 
 -- what byte i of a buffer holds before it is lent
-abbrev pub mark : ℕ → ℕ
-mark i = 200 + i % 50
+abbrev pub unwritten : ℕ → ℕ
+unwritten i = 200 + i % 50
 
 -- how many places from the front on hold the same in two buffers
 abbrev pub agreeing : List ℕ → List ℕ → ℕ

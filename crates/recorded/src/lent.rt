@@ -2,23 +2,23 @@
 ghost use mathlib.Core.Path.{_≡_};
 ghost use lib.ListN.{length};
 ghost use Rattle.recorded.specs.Counted.{counted-bytes, left-in};
-ghost use Rattle.recorded.specs.Lent.{mark, agreeing, Holds};
+ghost use Rattle.recorded.specs.Lent.{unwritten, agreeing, Holds};
 use crate::counted::Counted;
 use crate::decimals::read_bytes;
 use crate::decimals::read_natural;
 
 // What byte i holds before a call. An answer has no byte above 64 and a cell is 0 or 1: a byte that was written shows.
-fn mark(i: usize) -> u8
-    ensures { λ r. ⌜ r ≡ mark i ⌝ }
+fn unwritten(i: usize) -> u8
+    ensures { λ r. ⌜ r ≡ unwritten i ⌝ }
 {
     200 + (i % 50) as u8
 }
 
 pub fn fill(buffer: &mut [u8])
-    ensures { λ _. ⌜ Holds 0 mark (now (buffer .entry)) (now (buffer .exit)) ⌝ }
+    ensures { λ _. ⌜ Holds 0 unwritten (now (buffer .entry)) (now (buffer .exit)) ⌝ }
 {
     for i in 0..buffer.len() {
-        buffer[i] = mark(i);
+        buffer[i] = unwritten(i);
     }
 }
 

@@ -3,6 +3,7 @@ use crate::due::AxisDue;
 use crate::due::Due;
 use crate::got::Got;
 use marks::Axis;
+use recorded::floats::bits;
 use recorded::lent::agree;
 ghost use Prim.Native.Nat.{_≤_};
 
@@ -10,14 +11,6 @@ pub fn counted(b: bool) -> u64
     ensures { λ r. ⌜ r ≤ 1 ⌝ }
 {
     if b { 1 } else { 0 }
-}
-
-// The bits of a rest. What is no number has none that a file could ask for.
-fn bits(x: f64) -> u64 {
-    if x != x {
-        return u64::MAX;
-    }
-    f64::to_bits(x)
 }
 
 fn wide(x: i32) -> i64 {

@@ -1,29 +1,17 @@
 -- `marks::wedge::corner` meets its contract.
-use mathlib.Core.List.{List}
-use Prim.Native.Nat.{ℕ, _+_, _*_, _^_, _<_}
+use Prim.Native.Nat.{_+_, _*_}
 use native.Mathlib.Omega.{arith}
-use lib.IntN.{ℤ, pos}
-use lib.ListN.{getD, length}
-use lib.Signed.{mag}
-use borrow.Author.Needs.{needs, sfits-of}
-use mir.Syntax.{w32, w64}
-use mir.Val.{toZ, ofZ}
-use Rattle.whole.specs.Bounds.{Val, fit, par, loc, bound, near-of}
-use Rattle.limits.specs.Limits.{furthest}
-use Rattle.drawing.specs.Drawing.{InRange}
+use borrow.Author.Needs.{needs}
+use mir.Syntax.{w64}
+use Rattle.whole.specs.Bounds.{fit, loc, bound}
+use Rattle.drawing.proofs.Machine.{Coordinate, coordinate}
 use Rattle.marks.proofs.wedge.corner.Statement.{statement}
 use Rattle.marks.proofs.wedge.corner.Tie as tie
 
--- a coordinate of the list, as the machine holds it
-abbrev Coordinate : List ℤ → ℕ → Type 0
-Coordinate d k = Val (toZ w32 (ofZ w32 (getD d k (pos 0)))) (getD d k (pos 0)) furthest
-
-coordinate : (d : List ℤ) (k : ℕ) → InRange d → k < length d → mag (getD d k (pos 0)) < 2 ^ 31 → Coordinate d k
-coordinate d k l h f = par (sfits-of f) (near-of furthest (getD d k (pos 0)) (l .low k h) (l .high k h))
-
 at-x : (c : tie.After-t6) → Coordinate (c .before .args .xy .now) (2 * c .before .args .i)
 at-x c =
-    coordinate (c .before .args .xy .now) (2 * c .before .args .i) (c .before .pre .0) (omega arith) (c .t6 .given)
+    let s = c .before in
+    coordinate (s .args .xy .now) (2 * s .args .i) (s .pre .0) (omega arith) (c .t6 .given)
 
 at-y : (c : tie.After-t12) → Coordinate (c .before .before .args .xy .now) (2 * c .before .before .args .i + 1)
 at-y c =

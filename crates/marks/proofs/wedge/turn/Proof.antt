@@ -1,7 +1,7 @@
 -- `marks::wedge::turn` meets its contract.
 use mir.Syntax.{w64}
 use Rattle.whole.specs.Bounds.{fit, loc, less, bound}
-use Rattle.drawing.proofs.Machine.{the-x, the-y, product}
+use Rattle.drawing.proofs.Machine.{the-x, the-y, product, turn-held}
 use Rattle.marks.proofs.wedge.turn.Statement.{statement}
 use Rattle.marks.proofs.wedge.turn.Tie as tie
 
@@ -31,18 +31,12 @@ mul-result-2 : tie.Need-mul-result-2
 mul-result-2 c = let h = eight c .pre in fit tt (product (the-y (h .1)) (the-y (h .0)) (the-x (h .2)) (the-x (h .0)))
 
 sub-result-5 : tie.Need-sub-result-5
-sub-result-5 c =
-    let h = eight c .pre in
-    fit tt (less
-    (loc w64 tt (product (the-x (h .1)) (the-x (h .0)) (the-y (h .2)) (the-y (h .0))))
-    (loc w64 tt (product (the-y (h .1)) (the-y (h .0)) (the-x (h .2)) (the-x (h .0)))))
+sub-result-5 c = let h = eight c .pre in fit tt (turn-held (h .0) (h .1) (h .2))
 
 returns : tie.Need-returns
 returns c =
     let h = eight c .pre in
-    let r = loc w64 tt (less
-    (loc w64 tt (product (the-x (h .1)) (the-x (h .0)) (the-y (h .2)) (the-y (h .0))))
-    (loc w64 tt (product (the-y (h .1)) (the-y (h .0)) (the-x (h .2)) (the-x (h .0))))) in
+    let r = loc w64 tt (turn-held (h .0) (h .1) (h .2)) in
     record { is = r .is; small = bound r }
 
 pub turn-spec : {M : Type 1} → statement M

@@ -3,7 +3,7 @@ use mathlib.Core.Path.{sym}
 use borrow.Author.Needs.{needs}
 use lib.Seq.{length-take-le}
 use Rattle.recorded.specs.Decimals.{bytes-listed, byte-in}
-use Rattle.recorded.specs.Lent.{mark}
+use Rattle.recorded.specs.Lent.{unwritten}
 use Rattle.recorded.proofs.Fronts.{list-none, list-all}
 use Rattle.recorded.proofs.lent.read_left.Statement.{statement}
 use Rattle.recorded.proofs.lent.read_left.Tie as tie
@@ -21,7 +21,7 @@ returns : tie.Need-returns
 returns c =
     let s = c .before .before .before .before .before .before .before .before .before .args in
     let f = c .before .before .before .before .before .fill in
-    list-none 0 bytes-listed (byte-in (s .text .now)) mark (s .text .now) (s .at) (s .out .now) (f .last .0)
+    list-none 0 bytes-listed (byte-in (s .text .now)) unwritten (s .text .now) (s .at) (s .out .now) (f .last .0)
     (f .ensures)
     (c .before .before .read-natural .result) (c .before .before .read-natural .ensures) (c .if1 .taken)
 
@@ -44,7 +44,7 @@ returns-2 c =
     let s = filled .before .before .before .before .args in
     let n = c .before .before .before .before .before .before .read-natural in
     let r = c .before .before .read-bytes in
-    list-all 0 bytes-listed (byte-in (s .text .now)) mark (s .text .now) (s .at) (s .out .now) (f .last .0)
+    list-all 0 bytes-listed (byte-in (s .text .now)) unwritten (s .text .now) (s .at) (s .out .now) (f .last .0)
     (f .ensures)
     (n .result) (n .ensures) (c .before .before .before .before .if1 .left) (r .result) (r .last .1 .1 .0)
     (r .ensures .0) (r .ensures .1)

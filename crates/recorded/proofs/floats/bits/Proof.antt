@@ -1,12 +1,12 @@
--- `told::bits` meets its contract: what does not differ from itself is a number, and has bits of its own.
+-- `floats::bits` meets its contract: what does not differ from itself is a number, and has bits of its own.
 use mathlib.Core.Path.{_≡_, refl, sym, subst, _∙_}
 use mathlib.Core.Bool.{true, false, not, true≢false}
 use borrow.Author.Needs.{needs}
 use lib.Dec.{T}
 use lib.Ieee.{Float, nan, inf, fin, binary64, ne, isNan, toBits}
 use lib.Ieee.Compare.{nan-differs, differs-from-itself}
-use Rattle.questions.proofs.told.bits.Statement.{statement}
-use Rattle.questions.proofs.told.bits.Tie as tie
+use Rattle.recorded.proofs.floats.bits.Statement.{statement}
+use Rattle.recorded.proofs.floats.bits.Tie as tie
 
 number : (x : Float) → ne x x ≡ false → T (not (isNan x))
 unfolding isNan
