@@ -6,14 +6,15 @@ pub mod Sight
 -- ---- what the private functions promise
 pub mod Parts
 pub mod Known
--- ---- laws: truth values that tell, segments, how one meets another, a point against a segment, a side from one
--- corner, how far a side reaches that meets a segment, the corners' numbers, the sides of a simple drawing, sight,
--- sight from the open sides, and what the digits of masks tell of sides and of angles
+-- ---- laws: truth values that tell, segments, how one meets another, segments far apart, a point against a segment,
+-- a side from one corner, how far a side reaches that meets a segment, the corners' numbers, the sides of a simple
+-- drawing, sight, sight from the open sides, and what the digits of masks tell of sides and of angles
 pub mod Tells
 pub mod Spell
 pub mod Segments
 pub mod Quick
 pub mod Meeting
+pub mod FarApart
 pub mod Ends
 pub mod Against
 pub mod Away

@@ -5,6 +5,7 @@ ghost use Rattle.drawing.specs.Tells.{Tells};
 ghost use Rattle.drawing.specs.Segments.{Dot, OneSide};
 ghost use Rattle.drawing.specs.Quick.{Touch};
 ghost use Rattle.drawing.specs.Meeting.{Reached, Meets};
+ghost use Rattle.drawing.specs.FarApart.{Below, Above, Beyond, FarApart};
 ghost use Rattle.drawing.specs.Parts.{point, Close};
 
 pub struct Place {
@@ -100,11 +101,49 @@ pub fn meet(a: Place, b: Place, c: Place, d: Place) -> Met
     if t == 0 { Met::Touched } else { Met::Crossed }
 }
 
-// The segments a b and c d share a point.
+// On one axis: p lies below a and b.
+fn below(p: i64, a: i64, b: i64) -> bool
+    ensures { λ r. ⌜ Tells r (Below p a b) ⌝ }
+{
+    (p < a) & (p < b)
+}
+
+// On one axis: p lies above a and b.
+fn above(p: i64, a: i64, b: i64) -> bool
+    ensures { λ r. ⌜ Tells r (Above p a b) ⌝ }
+{
+    (a < p) & (b < p)
+}
+
+// On one axis: c and d both lie below a and b, or both above them.
+fn beyond(a: i64, b: i64, c: i64, d: i64) -> bool
+    ensures { λ r. ⌜ Tells r (Beyond a b c d) ⌝ }
+{
+    if below(c, a, b) & below(d, a, b) {
+        return true;
+    }
+    above(c, a, b) & above(d, a, b)
+}
+
+// The extents of the segments a b and c d do not overlap. No product is formed.
+fn far_apart(a: Place, b: Place, c: Place, d: Place) -> bool
+    requires { ⌜ Close (point a) × Close (point b) × Close (point c) × Close (point d) ⌝ }
+    ensures { λ r. ⌜ Tells r (FarApart (point a) (point b) (point c) (point d)) ⌝ }
+{
+    if beyond(a.x, b.x, c.x, d.x) {
+        return true;
+    }
+    beyond(a.y, b.y, c.y, d.y)
+}
+
+// The segments a b and c d share a point: extents first, and products only where they overlap.
 pub fn share(a: Place, b: Place, c: Place, d: Place) -> bool
     requires { ⌜ Close (point a) × Close (point b) × Close (point c) × Close (point d) ⌝ }
     ensures { λ r. ⌜ Tells r (Shared (point a) (point b) (point c) (point d)) ⌝ }
 {
+    if far_apart(a, b, c, d) {
+        return false;
+    }
     if one_side(turn(a, b, c), turn(a, b, d)) {
         return false;
     }
