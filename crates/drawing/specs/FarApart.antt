@@ -2,7 +2,7 @@
 -- comes from 01's p, q and r, and from no turn.
 use mathlib.Core.Path.{_≡_, refl, subst}
 use mathlib.Core.Logic.{_⊎_, inl, inr}
-use mathlib.Core.List.{List, [], _∷_}
+use mathlib.Core.List.{[], _∷_}
 use lib.IntN.{ℤ, pos, _+ℤ_, _-ℤ_, _*ℤ_}
 use lib.Signed.{_≤ℤ_, _<ℤ_, <ℤ-irrefl}
 use Rattle.whole.specs.Ring.{E, v, _:+_, _:-_, _:*_, ring1}
@@ -19,7 +19,7 @@ Below p a b = (p <ℤ a) × (p <ℤ b)
 abbrev pub Above : ℤ → ℤ → ℤ → Type 0
 Above p a b = (a <ℤ p) × (b <ℤ p)
 
--- c and d both do: equal ends of two segments are not beyond each other
+-- c and d both do. An extent that touches another at its end is not beyond it.
 abbrev pub Beyond : ℤ → ℤ → ℤ → ℤ → Type 0
 Beyond a b c d = (Below c a b × Below d a b) ⊎ (Above c a b × Above d a b)
 
@@ -28,7 +28,8 @@ abbrev pub FarApart : Point → Point → Point → Point → Type 0
 FarApart a b c d = Beyond (a .x) (b .x) (c .x) (d .x) ⊎ Beyond (a .y) (b .y) (c .y) (d .y)
 
 -- ---- on one axis the point of ab that p and r name lies above the point of cd that q and r name: each end of ab is
--- above each end of cd, by one at least, and is weighed by where the two points are
+-- above each end of cd, by one at least, and is weighed by where the two points are. Variables 0 to 6 are a, b, c, d,
+-- p, q and r.
 weighed : E
 weighed =
     (v 6 :- v 4) :* (v 6 :- v 5) :* (v 0 :- v 2 :- I) :+ (v 6 :- v 4) :* v 5 :* (v 0 :- v 3 :- I) :+
