@@ -1,5 +1,9 @@
--- Segments far apart: where on an axis both ends of one lie below both ends of the other, the two share no point. This
--- comes from 01's p, q and r, and from no turn.
+-- Segments far apart: on one of the axes the extent of one lies below that of the other, so they share no point (02,
+-- K2: "first compare their extents and form products only if these overlap"). That comes from 01's p, q and r, and
+-- from no turn.
+--
+--     d ------ c                   c and d lie below a and b: the extents do not overlap
+--                   a ---- b
 use mathlib.Core.Path.{_≡_, refl, subst}
 use mathlib.Core.Logic.{_⊎_, inl, inr}
 use mathlib.Core.List.{[], _∷_}
@@ -12,18 +16,18 @@ use Rattle.drawing.specs.Drawing.{Point, Shared}
 use Rattle.drawing.specs.Segments.{exchanged}
 use Rattle.drawing.specs.Spell.{O, I, At}
 
--- ---- on one axis: p lies below a and b, or above them
+-- ---- on one axis: p lies below both a and b, or above both
 abbrev pub Below : ℤ → ℤ → ℤ → Type 0
 Below p a b = (p <ℤ a) × (p <ℤ b)
 
 abbrev pub Above : ℤ → ℤ → ℤ → Type 0
 Above p a b = (a <ℤ p) × (b <ℤ p)
 
--- c and d both do. An extent that touches another at its end is not beyond it.
+-- both ends c and d do. Extents that touch at an end overlap.
 abbrev pub Beyond : ℤ → ℤ → ℤ → ℤ → Type 0
 Beyond a b c d = (Below c a b × Below d a b) ⊎ (Above c a b × Above d a b)
 
--- on either axis
+-- the segments ab and cd, on either axis
 abbrev pub FarApart : Point → Point → Point → Point → Type 0
 FarApart a b c d = Beyond (a .x) (b .x) (c .x) (d .x) ⊎ Beyond (a .y) (b .y) (c .y) (d .y)
 
@@ -37,9 +41,9 @@ weighed =
 
 module _ {a b c d p q r : ℤ} (r-above : pos 0 <ℤ r) (p-from : pos 0 ≤ℤ p) (p-to : p ≤ℤ r) (q-from : pos 0 ≤ℤ q)
     (q-to : q ≤ℤ r) where
-  apart : Below c a b → Below d a b → ¬ (r *ℤ a +ℤ p *ℤ (b -ℤ a) ≡ r *ℤ c +ℤ q *ℤ (d -ℤ c))
+  differ : Below c a b → Below d a b → ¬ (r *ℤ a +ℤ p *ℤ (b -ℤ a) ≡ r *ℤ c +ℤ q *ℤ (d -ℤ c))
   unfolding weighed
-  apart hc hd same =
+  differ hc hd same =
       <ℤ-irrefl
       (subst Positive
       (ring1 (a ∷ b ∷ c ∷ d ∷ p ∷ q ∷ r ∷ []) (v 6 :* v 6 :+ weighed) O (v 6) (At (v 6) (v 0) (v 4) (v 1))
@@ -52,14 +56,14 @@ module _ {a b c d p q r : ℤ} (r-above : pos 0 <ℤ r) (p-from : pos 0 ≤ℤ p
       by : {x y u w : ℤ} → Nonneg x → Nonneg y → u <ℤ w → Nonneg (x *ℤ y *ℤ (w -ℤ u -ℤ pos 1))
       by hx hy l = nonneg-mul (nonneg-mul hx hy) (positive-pred (lt-sub l))
 
-lower-x : {a b c d : Point} → Below (c .x) (a .x) (b .x) → Below (d .x) (a .x) (b .x) → ¬ Shared a b c d
-lower-x hc hd s = apart (s .r-above) (s .p-from) (s .p-to) (s .q-from) (s .q-to) hc hd (s .same-x)
+below-x : {a b c d : Point} → Below (c .x) (a .x) (b .x) → Below (d .x) (a .x) (b .x) → ¬ Shared a b c d
+below-x hc hd s = differ (s .r-above) (s .p-from) (s .p-to) (s .q-from) (s .q-to) hc hd (s .same-x)
 
-lower-y : {a b c d : Point} → Below (c .y) (a .y) (b .y) → Below (d .y) (a .y) (b .y) → ¬ Shared a b c d
-lower-y hc hd s = apart (s .r-above) (s .p-from) (s .p-to) (s .q-from) (s .q-to) hc hd (s .same-y)
+below-y : {a b c d : Point} → Below (c .y) (a .y) (b .y) → Below (d .y) (a .y) (b .y) → ¬ Shared a b c d
+below-y hc hd s = differ (s .r-above) (s .p-from) (s .p-to) (s .q-from) (s .q-to) hc hd (s .same-y)
 
 pub far-apart : {a b c d : Point} → FarApart a b c d → ¬ Shared a b c d
-far-apart (inl (inl h)) s = lower-x (h .0) (h .1) s
-far-apart (inl (inr h)) s = lower-x (h .0 .0, h .1 .0) (h .0 .1, h .1 .1) (exchanged s)
-far-apart (inr (inl h)) s = lower-y (h .0) (h .1) s
-far-apart (inr (inr h)) s = lower-y (h .0 .0, h .1 .0) (h .0 .1, h .1 .1) (exchanged s)
+far-apart (inl (inl h)) s = below-x (h .0) (h .1) s
+far-apart (inl (inr h)) s = below-x (h .0 .0, h .1 .0) (h .0 .1, h .1 .1) (exchanged s)
+far-apart (inr (inl h)) s = below-y (h .0) (h .1) s
+far-apart (inr (inr h)) s = below-y (h .0 .0, h .1 .0) (h .0 .1, h .1 .1) (exchanged s)

@@ -5,7 +5,7 @@ ghost use Rattle.drawing.specs.Tells.{Tells};
 ghost use Rattle.drawing.specs.Segments.{Dot, OneSide};
 ghost use Rattle.drawing.specs.Quick.{Touch};
 ghost use Rattle.drawing.specs.Meeting.{Reached, Meets};
-ghost use Rattle.drawing.specs.FarApart.{Below, Above, Beyond, FarApart};
+ghost use Rattle.drawing.specs.FarApart.{Beyond, FarApart};
 ghost use Rattle.drawing.specs.Parts.{point, Close};
 
 pub struct Place {
@@ -101,28 +101,14 @@ pub fn meet(a: Place, b: Place, c: Place, d: Place) -> Met
     if t == 0 { Met::Touched } else { Met::Crossed }
 }
 
-// On one axis: p lies below a and b.
-fn below(p: i64, a: i64, b: i64) -> bool
-    ensures { λ r. ⌜ Tells r (Below p a b) ⌝ }
-{
-    (p < a) & (p < b)
-}
-
-// On one axis: p lies above a and b.
-fn above(p: i64, a: i64, b: i64) -> bool
-    ensures { λ r. ⌜ Tells r (Above p a b) ⌝ }
-{
-    (a < p) & (b < p)
-}
-
 // On one axis: c and d both lie below a and b, or both above them.
 fn beyond(a: i64, b: i64, c: i64, d: i64) -> bool
     ensures { λ r. ⌜ Tells r (Beyond a b c d) ⌝ }
 {
-    if below(c, a, b) & below(d, a, b) {
+    if ((c < a) & (c < b)) & ((d < a) & (d < b)) {
         return true;
     }
-    above(c, a, b) & above(d, a, b)
+    ((a < c) & (b < c)) & ((a < d) & (b < d))
 }
 
 // The extents of the segments a b and c d do not overlap. No product is formed.

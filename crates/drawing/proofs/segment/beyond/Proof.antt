@@ -1,57 +1,42 @@
 -- `drawing::segment::beyond` meets its contract.
-use mathlib.Core.Path.{_≡_, subst}
 use mathlib.Core.Bool.{Bool, _&&_}
 use mathlib.Core.Logic.{inl}
 use lib.IntN.{ℤ}
+use lib.Signed.{ltZ, _<ℤ_}
+use mir.Syntax.{w64}
+use mir.Val.{SFits}
 use mir.Facts.{toZ-ofZ}
-use borrow.Author.Needs.{needs}
 use Rattle.drawing.specs.Tells.{Tells, if-yes, if-no, surely, never, and-tells, or-tells}
-use Rattle.drawing.specs.FarApart.{Below, Above}
-use Rattle.drawing.proofs.Machine.{back}
+use Rattle.drawing.specs.FarApart.{Below}
+use Rattle.drawing.proofs.Machine.{back, by-lt}
 use Rattle.drawing.proofs.segment.beyond.Statement.{statement}
 use Rattle.drawing.proofs.segment.beyond.Tie as tie
 
-below-requires : tie.Need-below-requires
-below-requires c κs = search needs
+-- one comparison, as the machine makes it
+abbrev less : ℤ → ℤ → Bool
+less x y = ltZ (back x) (back y)
 
-below-requires-2 : tie.Need-below-requires-2
-below-requires-2 c κs = search needs
+tells : {x y : ℤ} → SFits w64 x → SFits w64 y → Tells (less x y) (x <ℤ y)
+tells e f = by-lt (toZ-ofZ e) (toZ-ofZ f) (λ h. h) (λ h. h)
 
-above-requires : tie.Need-above-requires
-above-requires c κs = search needs
-
-above-requires-2 : tie.Need-above-requires-2
-above-requires-2 c κs = search needs
-
--- an answer of `below` or `above`, of the numbers themselves
-own : {p a b : ℤ} {r : Bool} (P : ℤ → ℤ → ℤ → Type 0) → back p ≡ p → back a ≡ a → back b ≡ b →
-    Tells r (P (back p) (back a) (back b)) → Tells r (P p a b)
-own {r} P e f g = subst (λ z. z) (λ i. Tells r (P (e i) (f i) (g i)))
-
-both-below : (c : tie.After-below2) →
-    let p = c .before .before .args in
-    Tells (c .before .below .result && c .below2 .result) (Below (p .c) (p .a) (p .b) × Below (p .d) (p .a) (p .b))
-both-below c =
-    let f = c .before .before .fits in
-    and-tells (own Below (toZ-ofZ (f .c)) (toZ-ofZ (f .a)) (toZ-ofZ (f .b)) (c .before .below .ensures))
-    (own Below (toZ-ofZ (f .d)) (toZ-ofZ (f .a)) (toZ-ofZ (f .b)) (c .below2 .ensures))
-
-both-above : (c : tie.After-above2) →
-    let p = c .before .before .before .before .before .args in
-    Tells (c .before .above .result && c .above2 .result) (Above (p .c) (p .a) (p .b) × Above (p .d) (p .a) (p .b))
-both-above c =
-    let f = c .before .before .before .before .before .fits in
-    and-tells (own Above (toZ-ofZ (f .c)) (toZ-ofZ (f .a)) (toZ-ofZ (f .b)) (c .before .above .ensures))
-    (own Above (toZ-ofZ (f .d)) (toZ-ofZ (f .a)) (toZ-ofZ (f .b)) (c .above2 .ensures))
+both-below : (s : tie.Start) →
+    let p = s .args in
+    Tells ((less (p .c) (p .a) && less (p .c) (p .b)) && (less (p .d) (p .a) && less (p .d) (p .b)))
+    (Below (p .c) (p .a) (p .b) × Below (p .d) (p .a) (p .b))
+both-below s =
+    let f = s .fits in
+    and-tells (and-tells (tells (f .c) (f .a)) (tells (f .c) (f .b)))
+    (and-tells (tells (f .d) (f .a)) (tells (f .d) (f .b)))
 
 returns : tie.Need-returns
 returns c = surely (inl (if-yes (both-below (c .before)) (c .if1 .taken)))
 
 returns-2 : tie.Need-returns-2
 returns-2 c =
-    let k = c .before .before in
-    or-tells (never (if-no (both-below (k .before)) (k .if1 .left))) (both-above c)
+    let f = c .before .fits in
+    or-tells (never (if-no (both-below (c .before)) (c .if1 .left)))
+    (and-tells (and-tells (tells (f .a) (f .c)) (tells (f .b) (f .c)))
+    (and-tells (tells (f .a) (f .d)) (tells (f .b) (f .d))))
 
 pub beyond-spec : {M : Type 1} → statement M
-beyond-spec =
-    tie.close (tie.spec below-requires below-requires-2 returns above-requires above-requires-2 returns-2)
+beyond-spec = tie.close (tie.spec returns returns-2)
