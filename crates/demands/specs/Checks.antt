@@ -6,7 +6,7 @@ use mathlib.Core.Logic.{inl, inr}
 use mathlib.Core.List.{List, [], _∷_}
 use Prim.Native.Nat.{ℕ}
 use lib.Dec.{T}
-use Rattle.drawing.specs.Tells.{Tells}
+use Rattle.outline.specs.Tells.{Tells}
 use Rattle.rules.specs.Lists.{In}
 use Rattle.rules.specs.Refusals.{Line, line, FirstFailed}
 

@@ -14,7 +14,7 @@ use lib.Dec.{ltb}
 use lib.IntN.{ℤ}
 use lib.ListN.{length}
 use Rattle.limits.specs.Limits.{Roomy}
-use Rattle.drawing.specs.Drawing.{corners, Sound}
+use Rattle.outline.specs.Drawing.{corners, Sound}
 use Rattle.pair.specs.Pair.{Alike, of-drawing}
 use Rattle.pair.specs.Passing.{sound-hold}
 use Rattle.rules.specs.Refusals.{Line, line, FirstFailed, SameAsked, end, same, same-failed}

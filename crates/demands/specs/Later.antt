@@ -11,10 +11,10 @@ use lib.Dec.{T, eqb, eqb→eq, ltb}
 use lib.Ieee.Fits.{and-l, and-r}
 use lib.IntN.{ℤ}
 use lib.ListN.{length}
-use Rattle.drawing.specs.Tells.{Tells, as-well, itself, never, and-tells, or-tells, not-tells, eq-tells, lower-tells}
-use Rattle.drawing.specs.Outlines.{Z, H}
+use Rattle.outline.specs.Tells.{Tells, as-well, itself, never, and-tells, or-tells, not-tells, eq-tells, lower-tells}
+use Rattle.outline.specs.Outlines.{Z, H}
 use Rattle.limits.specs.Limits.{fewest-corners}
-use Rattle.drawing.specs.Drawing.{corners}
+use Rattle.outline.specs.Drawing.{corners}
 use Rattle.rules.specs.Lists.{In}
 use Rattle.rules.specs.Cutting.{Pairs, Inner, Uncrossed, Tree, leaf, link, tree, told, pieces, flat, run, Less, one}
 use Rattle.rules.specs.Trees.{Node}

@@ -7,7 +7,7 @@ use Prim.Native.Nat.{ℕ}
 use native.Mathlib.Omega.{arith}
 use lib.IntN.{ℤ}
 use Rattle.limits.specs.Limits.{Roomy}
-use Rattle.drawing.specs.Drawing.{corners}
+use Rattle.outline.specs.Drawing.{corners}
 use Rattle.pair.specs.Pair.{Alike, of-drawings}
 use Rattle.rules.specs.Refusals.{Line, line, FirstFailed, Hold, passed, put-in}
 use Rattle.desk.specs.Answer.{of-cutting, asked}

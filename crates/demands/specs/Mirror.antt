@@ -10,9 +10,9 @@ use lib.Dec.{eqb, leb}
 use lib.IntN.{ℤ}
 use lib.ListN.{length}
 use Rattle.limits.specs.Limits.{fewest-corners, most-corners}
-use Rattle.drawing.specs.Drawing.{corners}
-use Rattle.drawing.specs.Tells.{Tells, as-well, and-tells, eq-tells, most-tells}
-use Rattle.drawing.specs.Mirror.{in-range-test, in-range-tells, simple-test, simple-tells, area-test, area-tells}
+use Rattle.outline.specs.Drawing.{corners}
+use Rattle.outline.specs.Tells.{Tells, as-well, and-tells, eq-tells, most-tells}
+use Rattle.outline.specs.Mirror.{in-range-test, in-range-tells, simple-test, simple-tells, area-test, area-tells}
 use Rattle.pair.specs.Pair.{Alike, of-drawing}
 use Rattle.rules.specs.Refusals.{Line, FirstFailed, all-hold}
 use Rattle.rules.specs.Cutting.{Tree, told}

@@ -10,8 +10,8 @@ use lib.IntN.{ℤ, pos, _+ℤ_, _-ℤ_, _*ℤ_}
 use lib.ListN.{length, getD}
 use lib.Signed.{_<ℤ_}
 use Rattle.whole.specs.Ring.{E, v, con, _:+_, _:-_, _:*_, ring}
-use Rattle.drawing.specs.Drawing.{Point, corner, corners, next, Simple, Sees, side-area, area-to, doubled-area}
-use Rattle.drawing.specs.Round.{next-inner, next-last, next-below}
+use Rattle.outline.specs.Drawing.{Point, corner, corners, next, Simple, Sees, side-area, area-to, doubled-area}
+use Rattle.outline.specs.Round.{next-inner, next-last, next-below}
 use Rattle.demands.specs.Partners.{Keeps, keeps-same, Partners, partners-simple, partners-sees}
 use Rattle.demands.specs.Entered.{Rule, move}
 use Rattle.demands.specs.MovedPoints.{factor, image, numbers, factor-of, image-x, image-y}

@@ -7,7 +7,7 @@ use lib.IntN.{ℤ, pos, _+ℤ_, _-ℤ_, _*ℤ_}
 use lib.Signed.{_≤ℤ_, _<ℤ_}
 use Rattle.whole.specs.Ring.{E, v, con, _:+_, _:-_, _:*_, neg, ring, ring1, ring2}
 use Rattle.whole.specs.Order.{zero-cancel, positive-nonneg, positive-mul, positive-cancel, nonneg-mul, nonneg-cancel}
-use Rattle.drawing.specs.Drawing.{Point, Shared, IsAt, SharedOnlyAt, Turn, InsideAngle}
+use Rattle.outline.specs.Drawing.{Point, Shared, IsAt, SharedOnlyAt, Turn, InsideAngle}
 use Rattle.demands.specs.Entered.{Rule}
 
 -- ---- ad-bc, and where a point goes

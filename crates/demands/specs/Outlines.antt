@@ -9,11 +9,11 @@ use native.Mathlib.Omega.{arith}
 use lib.Dec.{T, eqb}
 use lib.IntN.{ℤ, pos, negsuc}
 use lib.ListN.{length, replicate}
-use Rattle.drawing.specs.Tells.{failed}
-use Rattle.drawing.specs.Mirror.{area-tells}
-use Rattle.drawing.specs.Outlines.{S, D, E, Z, H, crossing, backwards, straight, crossing-not-simple}
+use Rattle.outline.specs.Tells.{failed}
+use Rattle.outline.specs.Mirror.{area-tells}
+use Rattle.outline.specs.Outlines.{S, D, E, Z, H, crossing, backwards, straight, crossing-not-simple}
 use Rattle.limits.specs.Limits.{Roomy}
-use Rattle.drawing.specs.Drawing.{InRange, Simple}
+use Rattle.outline.specs.Drawing.{InRange, Simple}
 use Rattle.pair.specs.Pair.{Alike, Anticlockwise, of-drawing}
 use Rattle.rules.specs.Lists.{In}
 use Rattle.rules.specs.Cutting.{Pairs, pieces}

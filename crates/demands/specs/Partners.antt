@@ -7,9 +7,9 @@ use mathlib.Core.Logic.{_⊎_, inl, inr, ⊎-elim, _↔_}
 use mathlib.Core.List.{List}
 use Prim.Native.Nat.{ℕ, _<_}
 use lib.IntN.{ℤ}
-use Rattle.drawing.specs.Drawing.{Point, corner, corners, next, prev, Shared, SharedOnlyAt, Simple}
-use Rattle.drawing.specs.Drawing.{InsideAngle, EndsAt, Beside, Clear, Sees}
-use Rattle.drawing.specs.Round.{next-below, prev-below, prev-next, next-prev}
+use Rattle.outline.specs.Drawing.{Point, corner, corners, next, prev, Shared, SharedOnlyAt, Simple}
+use Rattle.outline.specs.Drawing.{InsideAngle, EndsAt, Beside, Clear, Sees}
+use Rattle.outline.specs.Round.{next-below, prev-below, prev-next, next-prev}
 
 -- k is the partner of i
 abbrev Partner : (ℕ → ℕ) → List ℤ → ℕ → ℕ → Type 0

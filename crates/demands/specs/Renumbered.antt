@@ -7,7 +7,7 @@ use native.Mathlib.Omega.{arith}
 use lib.IntN.{ℤ}
 use lib.ListN.{length, take, drop, length-append, length-take, length-drop, take-append-drop}
 use lib.Seq.{take-at, drop-at}
-use Rattle.drawing.specs.Drawing.{corners, InRange, Simple, doubled-area}
+use Rattle.outline.specs.Drawing.{corners, InRange, Simple, doubled-area}
 use Rattle.demands.specs.Entered.{turned, turned-by}
 use Rattle.demands.specs.Turned.{length-turned, in-range-turned, simple-turned, area-turned}
 

@@ -7,8 +7,8 @@ use Prim.Native.Nat.{ℕ, zero, suc, _-_, _*_, _≤_, _<_}
 use native.Mathlib.Omega.{arith}
 use lib.IntN.{ℤ}
 use lib.ListN.{length}
-use Rattle.drawing.specs.Drawing.{corners, next, Sees}
-use Rattle.drawing.specs.Round.{next-inner, next-last}
+use Rattle.outline.specs.Drawing.{corners, next, Sees}
+use Rattle.outline.specs.Round.{next-inner, next-last}
 use Rattle.rules.specs.Cutting.{Pairs, Valid, pieces}
 use Rattle.rules.specs.Centre.{HasCentre}
 use Rattle.rules.specs.Turn.{Moved, centre-turn}

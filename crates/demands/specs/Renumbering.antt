@@ -9,7 +9,7 @@ use native.Mathlib.Decide.{decLt}
 use lib.IntN.{ℤ, pos}
 use lib.ListN.{length}
 use lib.Signed.{_<ℤ_}
-use Rattle.drawing.specs.Drawing.{corners}
+use Rattle.outline.specs.Drawing.{corners}
 use Rattle.pair.specs.Pair.{Alike}
 use Rattle.rules.specs.Cutting.{pieces}
 use Rattle.rules.specs.Centre.{layout-size}

@@ -9,10 +9,10 @@ use native.Mathlib.Omega.{arith}
 use lib.Dec.{T, eqb}
 use lib.IntN.{ℤ}
 use lib.ListN.{length, replicate, length-replicate}
-use Rattle.drawing.specs.Drawing.{Sees}
-use Rattle.drawing.specs.Tells.{Tells, as-well, surely, never, passed, failed, if-yes, if-no}
-use Rattle.drawing.specs.Tells.{and-tells, then-tells, eq-tells}
-use Rattle.drawing.specs.Mirror.{sees-test, sees-tells}
+use Rattle.outline.specs.Drawing.{Sees}
+use Rattle.outline.specs.Tells.{Tells, as-well, surely, never, passed, failed, if-yes, if-no}
+use Rattle.outline.specs.Tells.{and-tells, then-tells, eq-tells}
+use Rattle.outline.specs.Mirror.{sees-test, sees-tells}
 use Rattle.rules.specs.Result.{Result}
 use Rattle.desk.specs.Answer.{Answers}
 use Rattle.desk.specs.Unique.{answer-unique}

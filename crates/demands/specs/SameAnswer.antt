@@ -9,7 +9,7 @@ use native.Mathlib.Omega.{arith}
 use lib.IntN.{ℤ}
 use lib.ListN.{length}
 use Rattle.limits.specs.Limits.{Roomy}
-use Rattle.drawing.specs.Drawing.{corners, InRange, Simple}
+use Rattle.outline.specs.Drawing.{corners, InRange, Simple}
 use Rattle.pair.specs.Pair.{Alike, Anticlockwise, of-drawing}
 use Rattle.rules.specs.Refusals.{Line, SameAsked, end, same, same-failed}
 use Rattle.rules.specs.Plan.{Cuttable}

@@ -12,8 +12,8 @@ use lib.IntN.{ℤ, pos, negsuc}
 use lib.ListN.{length, take}
 use lib.Seq.{take-at}
 use lib.Signed.{ltZ-yes}
-use Rattle.drawing.specs.Tells.{failed, itself, and-tells, eq-tells}
-use Rattle.drawing.specs.Outlines.{S, D, E, Z, H, crossing, backwards}
+use Rattle.outline.specs.Tells.{failed, itself, and-tells, eq-tells}
+use Rattle.outline.specs.Outlines.{S, D, E, Z, H, crossing, backwards}
 use Rattle.rules.specs.Lists.{In}
 use Rattle.rules.specs.Result.{Result}
 use Rattle.desk.specs.Answer.{Answers}

@@ -12,7 +12,7 @@ use native.Mathlib.Omega.{arith}
 use lib.IntN.{ℤ}
 use lib.ListN.{length}
 use Rattle.limits.specs.Limits.{Roomy}
-use Rattle.drawing.specs.Drawing.{corners, Sound, Sees}
+use Rattle.outline.specs.Drawing.{corners, Sound, Sees}
 use Rattle.pair.specs.Pair.{Alike, of-drawings}
 use Rattle.pair.specs.Passing.{sound-pair, drawings-hold, equally-many}
 use Rattle.rules.specs.Lists.{In, rise-in}

@@ -9,10 +9,10 @@ use native.Mathlib.Omega.{arith}
 use lib.Dec.{T, ltb}
 use lib.IntN.{ℤ}
 use Rattle.limits.specs.Limits.{fewest-corners}
-use Rattle.drawing.specs.Drawing.{corners}
-use Rattle.drawing.specs.Tells.{Tells, as-well, itself, then-tells}
-use Rattle.drawing.specs.Seeing.{sees-mutual}
-use Rattle.drawing.specs.Mirror.{sees-test, sees-tells}
+use Rattle.outline.specs.Drawing.{corners}
+use Rattle.outline.specs.Tells.{Tells, as-well, itself, then-tells}
+use Rattle.outline.specs.Seeing.{sees-mutual}
+use Rattle.outline.specs.Mirror.{sees-test, sees-tells}
 use Rattle.rules.specs.Lists.{In}
 use Rattle.rules.specs.Cutting.{Pairs, Uncrossed, Region, Tree, leaf, link, tree, pieces, told, one}
 use Rattle.rules.specs.Centre.{Lowest, Layout}

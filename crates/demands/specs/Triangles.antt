@@ -9,8 +9,8 @@ use native.Mathlib.Omega.{arith}
 use native.Mathlib.Decide.{ℕ-discrete}
 use lib.IntN.{ℤ}
 use lib.ListN.{length}
-use Rattle.drawing.specs.Drawing.{corners, next, Sees}
-use Rattle.drawing.specs.Tells.{or-tells, eq-tells, all-tells}
+use Rattle.outline.specs.Drawing.{corners, next, Sees}
+use Rattle.outline.specs.Tells.{or-tells, eq-tells, all-tells}
 use Rattle.rules.specs.Lists.{In}
 use Rattle.rules.specs.Cutting.{Pairs, Inner, Region, Valid, pieces, weight, one, First}
 use Rattle.rules.specs.Centre.{HasCentre, Lowest, Layout}

@@ -12,9 +12,9 @@ use lib.ListN.{length, getD, take, drop, length-append, length-take, length-drop
 use lib.Seq.{getD-take, getD-drop, getD-append-add}
 use lib.Signed.{_≤ℤ_}
 use Rattle.limits.specs.Limits.{furthest}
-use Rattle.drawing.specs.Drawing.{corner, corners, next, prev, InRange, Simple, Sees}
-use Rattle.drawing.specs.Drawing.{side-area, area-to, doubled-area}
-use Rattle.drawing.specs.Round.{next-inner, next-last, next-below, prev-below, prev-next, next-prev}
+use Rattle.outline.specs.Drawing.{corner, corners, next, prev, InRange, Simple, Sees}
+use Rattle.outline.specs.Drawing.{side-area, area-to, doubled-area}
+use Rattle.outline.specs.Round.{next-inner, next-last, next-below, prev-below, prev-next, next-prev}
 use Rattle.demands.specs.Entered.{turned}
 use Rattle.demands.specs.Partners.{keeps-same, Partners, partners-simple, partners-sees}
 

@@ -7,7 +7,7 @@ use mathlib.Core.List.{List}
 use Prim.Native.Nat.{ℕ, _<_}
 use native.Mathlib.Omega.{arith}
 use lib.IntN.{ℤ}
-use Rattle.drawing.specs.Drawing.{corners, InRange}
+use Rattle.outline.specs.Drawing.{corners, InRange}
 use Rattle.pair.specs.Pair.{Alike}
 use Rattle.rules.specs.Result.{Result}
 use Rattle.desk.specs.Answer.{Answers}

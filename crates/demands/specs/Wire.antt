@@ -6,7 +6,7 @@ use Prim.Native.Nat.{ℕ}
 use native.Mathlib.Omega.{arith}
 use lib.ListN.{length, replicate, length-replicate}
 use Rattle.limits.specs.Limits.{room}
-use Rattle.drawing.specs.Outlines.{S}
+use Rattle.outline.specs.Outlines.{S}
 use Rattle.frames.specs.Examples.{characters}
 use Rattle.terminal.specs.Terminal.{Output, Answered}
 use Rattle.terminal.specs.Unique.{output-unique, output-exists}

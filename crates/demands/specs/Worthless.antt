@@ -9,8 +9,8 @@ use Prim.Native.Nat.{ℕ, _≤_, _<_}
 use native.Mathlib.Omega.{arith}
 use lib.IntN.{ℤ}
 use lib.ListN.{length, drop, getD, replicate}
-use Rattle.drawing.specs.Drawing.{corners}
-use Rattle.drawing.specs.Outlines.{S, Z, H}
+use Rattle.outline.specs.Drawing.{corners}
+use Rattle.outline.specs.Outlines.{S, Z, H}
 use Rattle.rules.specs.Cutting.{Pairs, pieces, one}
 use Rattle.rules.specs.Centre.{size, layout-size}
 use Rattle.rules.specs.Valid.{first-unique}

@@ -10,9 +10,9 @@ use native.Mathlib.Decide.{ℕ-discrete}
 use lib.IntN.{ℤ}
 use lib.ListN.{length}
 use Rattle.limits.specs.Limits.{all-cells, Roomy}
-use Rattle.drawing.specs.Drawing.{corners, Sound}
+use Rattle.outline.specs.Drawing.{corners, Sound}
 use Rattle.drawing.specs.Sight.{Cell, Seen, Sight}
-use Rattle.drawing.specs.Seeing.{sees-mutual}
+use Rattle.outline.specs.Seeing.{sees-mutual}
 use Rattle.pair.specs.Pair.{Alike, of-drawings, lines, Checks}
 use Rattle.pair.specs.Passing.{SoundPair, equally-many, drawings-hold, pair-passes}
 use Rattle.rules.specs.Cutting.{Inner}

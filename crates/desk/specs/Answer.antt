@@ -7,7 +7,7 @@ use Prim.Native.Nat.{ℕ}
 use lib.IntN.{ℤ}
 use lib.ListN.{length}
 use Rattle.limits.specs.Limits.{Roomy}
-use Rattle.drawing.specs.Drawing.{corners, Sees}
+use Rattle.outline.specs.Drawing.{corners, Sees}
 use Rattle.pair.specs.Pair.{Alike, of-drawings}
 use Rattle.rules.specs.Cutting.{Pairs}
 use Rattle.rules.specs.Refusals.{Line, line}

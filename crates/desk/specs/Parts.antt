@@ -5,7 +5,7 @@ use Prim.Native.Nat.{ℕ, _≤_}
 use lib.IntN.{ℤ}
 use lib.ListN.{length}
 use Rattle.limits.specs.Limits.{all-cells, Roomy}
-use Rattle.drawing.specs.Drawing.{corners}
+use Rattle.outline.specs.Drawing.{corners}
 use Rattle.pair.specs.Passing.{SoundPair}
 use Rattle.rules.specs.Cells.{marked}
 use Rattle.rules.specs.Plan.{FirstBy}

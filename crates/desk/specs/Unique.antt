@@ -4,7 +4,7 @@ use mathlib.Core.List.{List}
 use Prim.Native.Nat.{ℕ}
 use lib.IntN.{ℤ}
 use lib.ListN.{length}
-use Rattle.drawing.specs.Drawing.{corners}
+use Rattle.outline.specs.Drawing.{corners}
 use Rattle.rules.specs.Plan.{stars-one}
 use Rattle.rules.specs.Result.{Result, comes-back-unique}
 use Rattle.desk.specs.Answer.{InBoth, Cut, plan, asked, Answers, result}

@@ -12,7 +12,7 @@ use telling::Told;
 ghost use mathlib.Core.Path.{_≡_};
 ghost use lib.ListN.{length};
 ghost use Rattle.limits.specs.Limits.{all-cells, Roomy};
-ghost use Rattle.drawing.specs.Tells.{Tells};
+ghost use Rattle.outline.specs.Tells.{Tells};
 ghost use Rattle.desk.specs.Answer.{result};
 ghost use Rattle.desk.specs.Stages.{Served, Cuts};
 ghost use Rattle.desk.specs.Parts.{FirstMarked};

@@ -9,7 +9,7 @@ use lib.IntN.{ℤ}
 use lib.ListN.{length, getD, set, length-set}
 use lib.Seq.{getD-set-same, getD-set-other}
 use Rattle.limits.specs.Limits.{most-corners, all-cells, place}
-use Rattle.drawing.specs.Drawing.{corners}
+use Rattle.outline.specs.Drawing.{corners}
 use Rattle.drawing.specs.Parts.{Marked, None, RowBlank}
 
 -- ---- one row

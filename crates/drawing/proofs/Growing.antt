@@ -3,7 +3,7 @@ use mathlib.Core.Path.{refl, _∙_}
 use mathlib.Core.List.{List}
 use Prim.Native.Nat.{ℕ, _<_}
 use lib.IntN.{ℤ}
-use Rattle.drawing.specs.Drawing.{corners, Sees}
+use Rattle.outline.specs.Drawing.{corners, Sees}
 use Rattle.drawing.specs.Parts.{Grows}
 
 -- by two steps

@@ -18,11 +18,11 @@ use borrow.Author.Needs.{sfits-of}
 use Rattle.whole.specs.Masks.{Digit, Made, made-room}
 use Rattle.whole.specs.Bounds.{Val, fit, par, loc, less, times, near-of}
 use Rattle.limits.specs.Limits.{furthest}
-use Rattle.drawing.specs.Drawing.{Point, InRange, Turn}
-use Rattle.drawing.specs.Segments.{Dot}
+use Rattle.outline.specs.Drawing.{Point, InRange, Turn}
+use Rattle.outline.specs.Segments.{Dot}
 use Rattle.drawing.specs.Meeting.{Reached, Meets}
 use Rattle.drawing.specs.declared.segment.Met.{Met}
-use Rattle.drawing.specs.Tells.{Tells, as-well, eq-tells}
+use Rattle.outline.specs.Tells.{Tells, as-well, eq-tells}
 use Rattle.drawing.specs.Parts.{Close}
 use Rattle.drawing.specs.Away.{Far}
 use Rattle.drawing.specs.declared.segment.Place.{Place}

@@ -8,7 +8,7 @@ use native.Mathlib.Omega.{arith}
 use lib.IntN.{ℤ}
 use lib.ListN.{length}
 use Rattle.limits.specs.Limits.{most-corners, all-cells}
-use Rattle.drawing.specs.Drawing.{corners, after, Beside, Sees}
+use Rattle.outline.specs.Drawing.{corners, after, Beside, Sees}
 use Rattle.drawing.specs.Parts.{None, Grows, Numbers, both}
 use Rattle.drawing.proofs.Growing.{grows-on, grows-as}
 use Rattle.drawing.proofs.Pairs.{Pair, pair-added}

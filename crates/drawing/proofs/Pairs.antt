@@ -9,9 +9,9 @@ use lib.IntN.{ℤ}
 use lib.ListN.{length, getD, set, length-set}
 use lib.Seq.{getD-set-same, getD-set-other}
 use Rattle.limits.specs.Limits.{most-corners, all-cells, place}
-use Rattle.drawing.specs.Drawing.{corners, Sees}
+use Rattle.outline.specs.Drawing.{corners, Sees}
 use Rattle.drawing.specs.Parts.{Marked, Grows, both}
-use Rattle.drawing.specs.Seeing.{sees-mutual}
+use Rattle.outline.specs.Seeing.{sees-mutual}
 
 -- a cell that holds 1 holds it also after 1 is written, there or elsewhere
 again : (l : List ℕ) (a k : ℕ) → a < length l → getD l k 0 ≡ 1 → getD (set l a 1) k 0 ≡ 1

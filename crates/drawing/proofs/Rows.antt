@@ -10,12 +10,12 @@ use lib.ListN.{length, getD}
 use Rattle.limits.specs.Limits.{most-corners, all-cells, place}
 use Rattle.whole.specs.Bits.{bit, bit-nought, bit-from, others-stay}
 use Rattle.whole.specs.Masks.{marked, mark, others}
-use Rattle.drawing.specs.Drawing.{corners, Beside, Sees}
+use Rattle.outline.specs.Drawing.{corners, Beside, Sees}
 use Rattle.drawing.specs.Sight.{Seen}
 use Rattle.drawing.specs.Parts.{Marked, RowsDone, Grows, Decided}
 use Rattle.drawing.specs.Known.{FacedBy}
 use Rattle.drawing.specs.Looking.{sees-facing}
-use Rattle.drawing.specs.Seeing.{sees-mutual, beside-back, beside-or}
+use Rattle.outline.specs.Seeing.{sees-mutual, beside-back, beside-or}
 use Rattle.drawing.proofs.Growing.{grows-on, grows-as}
 use Rattle.drawing.proofs.Pairs.{Pair, pair-added}
 

@@ -8,8 +8,8 @@ use lib.Signed.{_<ℤ_}
 use Rattle.limits.specs.Limits.{furthest}
 use Rattle.whole.specs.Ring.{v, con, _:-_, _:*_, ring, by-ring}
 use Rattle.whole.specs.Order.{Positive, sub-lt, lt-sub}
-use Rattle.drawing.specs.Drawing.{corner, after}
-use Rattle.drawing.specs.Spell.{A, C, D, env4, TurnE}
+use Rattle.outline.specs.Drawing.{corner, after}
+use Rattle.outline.specs.Spell.{A, C, D, env4, TurnE}
 use Rattle.drawing.specs.Known.{SideTurn}
 use Rattle.drawing.specs.declared.segment.Place.{Place}
 

@@ -12,10 +12,10 @@ use lib.Signed.{_<ℤ_, <ℤ-irrefl, clashℤ}
 use Rattle.whole.specs.Order.{Positive, Sign, plus, nought, minus, sign, below, <ℤ-le}
 use Rattle.whole.specs.Bits.{bit, bit-small, bit-and, bit-or, bit-xor, bit-one, bit-only}
 use Rattle.whole.specs.Masks.{Marks, marked, unmarked}
-use Rattle.drawing.specs.Drawing.{corner, corners, prev, after, EndsAt}
-use Rattle.drawing.specs.Round.{next-prev, prev-next, prev-below}
-use Rattle.drawing.specs.Segments.{Apart, apart-off}
-use Rattle.drawing.specs.Extent.{reach-low, reach-west}
+use Rattle.outline.specs.Drawing.{corner, corners, prev, after, EndsAt}
+use Rattle.outline.specs.Round.{next-prev, prev-next, prev-below}
+use Rattle.outline.specs.Segments.{Apart, apart-off}
+use Rattle.outline.specs.Extent.{reach-low, reach-west}
 use Rattle.drawing.specs.Looking.{at-own}
 use Rattle.drawing.specs.Known.{SideTurn, Left, Right, OnLine, Along, Open, Hides, Looks, Reaches, Knows}
 use Rattle.drawing.specs.declared.masks.Known.{Known}

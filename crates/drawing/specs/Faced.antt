@@ -11,9 +11,9 @@ use lib.IntN.{ℤ}
 use Rattle.whole.specs.Order.{Positive}
 use Rattle.whole.specs.Bits.{bit, bit-small, push-low, push-high, bit-above, bit-highest, bit-lower, bit-and, bit-or}
 use Rattle.whole.specs.Masks.{Marks, marked}
-use Rattle.drawing.specs.Drawing.{corner, corners, prev, Turn}
-use Rattle.drawing.specs.Round.{next-prev, prev-below}
-use Rattle.drawing.specs.Against.{angle-left, angle-other, angle-both, angle-either}
+use Rattle.outline.specs.Drawing.{corner, corners, prev, Turn}
+use Rattle.outline.specs.Round.{next-prev, prev-below}
+use Rattle.outline.specs.Against.{angle-left, angle-other, angle-both, angle-either}
 use Rattle.drawing.specs.Known.{SideTurn, Left, Facing, Needs, need-of, FacedBy, Around, Faced, AllKnown}
 use Rattle.drawing.specs.declared.faced.Bends.{Bends}
 use Rattle.drawing.specs.declared.masks.Known.{Known}

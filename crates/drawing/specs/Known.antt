@@ -10,8 +10,8 @@ use lib.ListN.{getD}
 use lib.Signed.{_≤ℤ_, _<ℤ_}
 use Rattle.whole.specs.Bits.{bit}
 use Rattle.whole.specs.Masks.{Marks}
-use Rattle.drawing.specs.Drawing.{corner, corners, after, prev, Turn, EndsAt, Angle, Shared}
-use Rattle.drawing.specs.Segments.{Apart, Dot}
+use Rattle.outline.specs.Drawing.{corner, corners, after, prev, Turn, EndsAt, Angle, Shared}
+use Rattle.outline.specs.Segments.{Apart, Dot}
 use Rattle.drawing.specs.Meeting.{Meets}
 use Rattle.drawing.specs.declared.faced.Bends.{Bends}
 use Rattle.drawing.specs.declared.masks.Known.{Known}

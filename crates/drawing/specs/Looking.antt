@@ -9,17 +9,16 @@ use lib.IntN.{ℤ, pos}
 use lib.Signed.{_≤ℤ_, _<ℤ_, <ℤ-irrefl, clashℤ}
 use Rattle.whole.specs.Ring.{neg, ring, ring1}
 use Rattle.whole.specs.Order.{Positive, Sign, plus, nought, minus, sign, below, <ℤ-le, ≤ℤ-total}
-use Rattle.drawing.specs.Drawing.{corner, corners, prev, after, Turn, EndsAt, Beside, Clear, Sees}
-use Rattle.drawing.specs.Parts.{Passes}
-use Rattle.drawing.specs.Segments.{exchanged, turned-first, OneSide, one-side, Dot}
-use Rattle.drawing.specs.Quick.{on-line}
+use Rattle.outline.specs.Drawing.{corner, corners, prev, after, Turn, EndsAt, Beside, Clear, Sees}
+use Rattle.outline.specs.Segments.{exchanged, turned-first, OneSide, one-side, Dot}
+use Rattle.outline.specs.Quick.{on-line}
 use Rattle.drawing.specs.Meeting.{Reached}
-use Rattle.drawing.specs.Ends.{OnlyEnd, only-sound, only-complete}
-use Rattle.drawing.specs.Spell.{A, B, C, O, env4, TurnE, DotE, I}
-use Rattle.drawing.specs.Round.{prev-next}
-use Rattle.drawing.specs.Seeing.{begins-at-i, ends-at-i, begins-at-j, ends-at-j, ends-at-neither}
-use Rattle.drawing.specs.Seeing.{OnlyCorner, sees-of, clear-sight, clear-passes}
-use Rattle.drawing.specs.Against.{aside, aside-right, at-end, angle-ends, no-angle}
+use Rattle.outline.specs.Ends.{OnlyEnd, only-sound, only-complete}
+use Rattle.outline.specs.Spell.{A, B, C, O, env4, TurnE, DotE, I}
+use Rattle.outline.specs.Round.{prev-next}
+use Rattle.outline.specs.Seeing.{begins-at-i, ends-at-i, begins-at-j, ends-at-j, ends-at-neither}
+use Rattle.outline.specs.Seeing.{Passes, OnlyCorner, sees-of, clear-sight, clear-passes}
+use Rattle.outline.specs.Against.{aside, aside-right, at-end, angle-ends, no-angle}
 use Rattle.drawing.specs.Known.{SideTurn, Left, Right, OnSide, Within, Open, Hides, Facing}
 
 module _ (d : List ℤ) where

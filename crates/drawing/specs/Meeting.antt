@@ -5,9 +5,9 @@ use mathlib.Core.Logic.{_⊎_, inl, inr}
 use lib.IntN.{ℤ, pos}
 use lib.Signed.{_<ℤ_, clashℤ}
 use Rattle.whole.specs.Order.{Sign, plus, nought, minus, sign, below, <ℤ-le}
-use Rattle.drawing.specs.Drawing.{Point, Turn, Shared}
-use Rattle.drawing.specs.Segments.{OneSide, Apart, apart-off}
-use Rattle.drawing.specs.Quick.{Touch, quick-sound, quick-complete}
+use Rattle.outline.specs.Drawing.{Point, Turn, Shared}
+use Rattle.outline.specs.Segments.{OneSide, Apart, apart-off}
+use Rattle.outline.specs.Quick.{Touch, quick-sound, quick-complete}
 use Rattle.drawing.specs.declared.segment.Met.{Met}
 use Rattle.drawing.specs.declared.segment.Met.the-variants as is
 

@@ -3,9 +3,9 @@
 ghost use mathlib.Core.Path.{_≡_};
 ghost use Prim.Native.Nat.{_<_};
 ghost use Rattle.whole.specs.Masks.{Marks};
-ghost use Rattle.drawing.specs.Drawing.{corners};
+ghost use Rattle.outline.specs.Drawing.{corners};
 ghost use Rattle.drawing.specs.Sight.{Limits};
-ghost use Rattle.drawing.specs.Tells.{Tells};
+ghost use Rattle.outline.specs.Tells.{Tells};
 ghost use Rattle.drawing.specs.Known.{Along, Within, OnSide, Needs, Knows, AllKnown};
 ghost use Rattle.drawing.specs.Away.{Far, Away, Cross};
 use crate::corners::corner;

@@ -1,9 +1,9 @@
 // Whether one corner sees another: 01, "Sight".
 ghost use Prim.Native.Nat.{_<_};
 ghost use Rattle.whole.specs.Masks.{Marks};
-ghost use Rattle.drawing.specs.Drawing.{corners};
+ghost use Rattle.outline.specs.Drawing.{corners};
 ghost use Rattle.drawing.specs.Sight.{Limits};
-ghost use Rattle.drawing.specs.Tells.{Tells};
+ghost use Rattle.outline.specs.Tells.{Tells};
 ghost use Rattle.drawing.specs.Known.{Left, Open, NoneHides, Looks, Reaches, MeetsSide, Facing, Needs, Knows};
 ghost use Rattle.drawing.specs.Parts.{TellsSight};
 use crate::corners::corner;

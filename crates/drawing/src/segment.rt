@@ -1,11 +1,11 @@
 // Segments between points with whole coordinates. This module alone knows how it is decided what two segments share.
 ghost use mathlib.Core.Path.{_≡_};
-ghost use Rattle.drawing.specs.Drawing.{Turn, Shared, SharedOnlyAt};
-ghost use Rattle.drawing.specs.Tells.{Tells};
-ghost use Rattle.drawing.specs.Segments.{Dot, OneSide};
-ghost use Rattle.drawing.specs.Quick.{Touch};
+ghost use Rattle.outline.specs.Drawing.{Turn, Shared, SharedOnlyAt};
+ghost use Rattle.outline.specs.Tells.{Tells};
+ghost use Rattle.outline.specs.Segments.{Dot, OneSide};
+ghost use Rattle.outline.specs.Quick.{Touch};
 ghost use Rattle.drawing.specs.Meeting.{Reached, Meets};
-ghost use Rattle.drawing.specs.FarApart.{Beyond, FarApart};
+ghost use Rattle.outline.specs.FarApart.{Beyond, FarApart};
 ghost use Rattle.drawing.specs.Parts.{point, Close};
 
 pub struct Place {

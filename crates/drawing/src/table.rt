@@ -4,7 +4,7 @@ ghost use mathlib.Core.Path.{_≡_};
 ghost use Prim.Native.Nat.{_<_, _≤_};
 ghost use lib.ListN.{length};
 ghost use Rattle.limits.specs.Limits.{most-corners, all-cells};
-ghost use Rattle.drawing.specs.Drawing.{corners};
+ghost use Rattle.outline.specs.Drawing.{corners};
 ghost use Rattle.drawing.specs.Sight.{Limits, Seen};
 ghost use Rattle.drawing.specs.Parts.{None, Marked, RowBlank, NeighboursAdded, RowsFilled, Decided, both};
 ghost use Rattle.drawing.specs.Known.{Facing, Knows, AllKnown};

@@ -9,7 +9,7 @@ use native.Mathlib.Nat.{add-zero}
 use lib.IntN.{ℤ}
 use lib.ListN.{length, getD, take, drop, drop-of-length-le, length-append, length-drop}
 use lib.Seq.{drop-drop, drop-at, take-at, getD-drop}
-use Rattle.drawing.specs.Drawing.{Point, corners}
+use Rattle.outline.specs.Drawing.{Point, corners}
 use Rattle.rules.specs.Lists.{In}
 use Rattle.marks.specs.Wedges.{Wedge, fan, piece-wedges, wedges}
 use Rattle.marks.specs.Lands.{Lands}

@@ -7,7 +7,7 @@ use Prim.Native.Nat.{ℕ, _≤_}
 use native.Mathlib.Omega.{arith}
 use lib.IntN.{ℤ}
 use Rattle.limits.specs.Limits.{room, Roomy}
-use Rattle.drawing.specs.Drawing.{corners}
+use Rattle.outline.specs.Drawing.{corners}
 use Rattle.pair.specs.Pair.{Alike}
 use Rattle.rules.specs.Refusals.{FirstFailed}
 use Rattle.desk.specs.Answer.{asked}

@@ -11,7 +11,7 @@ use lib.Dec.{T, eqb, eqb→eq}
 use lib.IntN.{ℤ}
 use lib.ListN.{length, getD, drop, drop-of-length-le}
 use lib.Seq.{drop-cons}
-use Rattle.drawing.specs.Drawing.{Point, corner}
+use Rattle.outline.specs.Drawing.{Point, corner}
 use Rattle.marks.specs.Wedges.{Wedge, wedge, with-wedge, following, fan}
 use Rattle.marks.specs.Lands.{area, Holds, LandsBy, Lands}
 use Rattle.marks.specs.Areas.{no-area-from, no-area-to}

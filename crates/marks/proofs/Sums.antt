@@ -12,7 +12,7 @@ use lib.Signed.{_≤ℤ_, _<ℤ_, ltZ-yes}
 use Rattle.limits.specs.Limits.{furthest}
 use Rattle.whole.specs.Ring.{v, con, _:-_, neg, ring}
 use Rattle.whole.specs.Bounds.{Val, lit, plus, times}
-use Rattle.drawing.specs.Drawing.{Point}
+use Rattle.outline.specs.Drawing.{Point}
 use Rattle.drawing.specs.Parts.{Close}
 use Rattle.marks.specs.Steps.{InSteps}
 use Rattle.marks.specs.Parts.{most-area, most-weighed, Share, Weights, Reach}

@@ -10,7 +10,7 @@ use lib.ListN.{length, take, drop, length-append}
 use lib.Seq.{take-at}
 use Rattle.limits.specs.Limits.{furthest}
 use Rattle.whole.specs.Bounds.{near-of}
-use Rattle.drawing.specs.Drawing.{Point, corners}
+use Rattle.outline.specs.Drawing.{Point, corners}
 use Rattle.drawing.specs.Parts.{Close}
 use Rattle.pair.specs.Passing.{SoundPair, sound-pair, equally-many}
 use Rattle.rules.specs.Lists.{In}

@@ -4,7 +4,7 @@ use mathlib.Core.List.{List}
 use Prim.Native.Nat.{ℕ, _+_, _≤_, _<_}
 use native.Mathlib.Omega.{arith}
 use lib.IntN.{ℤ, pos, natAbs, _+ℤ_, _*ℤ_}
-use Rattle.drawing.specs.Drawing.{Point, corner}
+use Rattle.outline.specs.Drawing.{Point, corner}
 use Rattle.marks.specs.Wedges.{wedge}
 use Rattle.marks.specs.Steps.{InSteps}
 use Rattle.marks.specs.Lands.{area, across, upward, wedge-area, weighed, Holds}

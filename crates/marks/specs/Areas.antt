@@ -9,9 +9,9 @@ use lib.IntN.{ℤ, pos, negsuc, negℤ, natAbs, _+ℤ_, _-ℤ_, _*ℤ_}
 use Rattle.whole.specs.Ring.{E, v, con, _:+_, _:-_, _:*_, neg, ring, ring1, by-ring}
 use Rattle.whole.specs.Order.{Nonneg, Positive, nonneg-add, nonneg-pos, nonneg-zero, positive-nonneg}
 use Rattle.whole.specs.Order.{Sign, plus, nought, minus, sign}
-use Rattle.drawing.specs.Drawing.{Point, Turn, doubled-area}
-use Rattle.drawing.specs.InOrOn.{spot, InOrOn}
-use Rattle.drawing.specs.Spell.{A, B, C, D, O, I, env4, TurnE}
+use Rattle.outline.specs.Drawing.{Point, Turn, doubled-area}
+use Rattle.outline.specs.InOrOn.{spot, InOrOn}
+use Rattle.outline.specs.Spell.{A, B, C, D, O, I, env4, TurnE}
 use Rattle.marks.specs.Lands.{triangle, area}
 use Rattle.marks.specs.Lies.{Lies, in-lies, lies-in, swap-lies}
 use Rattle.marks.specs.Weighs.{lies-weighs}

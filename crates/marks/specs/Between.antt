@@ -7,8 +7,8 @@ use mathlib.Core.List.{List, [], _∷_}
 use Prim.Native.Nat.{ℕ}
 use lib.IntN.{ℤ, pos, negℤ, _+ℤ_, _*ℤ_}
 use Rattle.whole.specs.Ring.{E, v, _:+_, _:-_, _:*_, neg, ring, ring1}
-use Rattle.drawing.specs.Drawing.{Point, corner, Turn}
-use Rattle.drawing.specs.Spell.{PointE, A, B, C, D, O, TurnE}
+use Rattle.outline.specs.Drawing.{Point, corner, Turn}
+use Rattle.outline.specs.Spell.{PointE, A, B, C, D, O, TurnE}
 use Rattle.marks.specs.Wedges.{Wedge}
 use Rattle.marks.specs.Lands.{across, upward, wedge-area, weighed, Holds, LandsBy}
 use Rattle.marks.specs.Areas.{one-sign}

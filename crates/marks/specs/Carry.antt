@@ -8,7 +8,7 @@ use lib.IntN.{ℤ, pos, negℤ}
 use lib.ListN.{length}
 use lib.Signed.{_≤ℤ_}
 use Rattle.limits.specs.Limits.{furthest}
-use Rattle.drawing.specs.Drawing.{Point, corners}
+use Rattle.outline.specs.Drawing.{Point, corners}
 use Rattle.rules.specs.Cutting.{pieces}
 use Rattle.rules.specs.Plan.{Plan}
 use Rattle.rules.specs.Refusals.{Line, line}

@@ -4,7 +4,7 @@ use mathlib.Core.List.{List}
 use Prim.Native.Nat.{ℕ}
 use lib.IntN.{ℤ, pos}
 use lib.Ieee.{binary64, ofBits}
-use Rattle.drawing.specs.Drawing.{Point}
+use Rattle.outline.specs.Drawing.{Point}
 use Rattle.marks.specs.Carry.{CarriesMark, result}
 use Rattle.marks.specs.declared.Carried.{Carried}
 use Rattle.marks.specs.declared.Landing.{Landing}

@@ -4,8 +4,8 @@ use mathlib.Core.Logic.{_⊎_, inl, inr, _↔_}
 use mathlib.Core.List.{List, [], _∷_}
 use Prim.Native.Nat.{ℕ, _<_}
 use lib.IntN.{ℤ, pos, natAbs, _+ℤ_, _*ℤ_}
-use Rattle.drawing.specs.Drawing.{Point, corner, Turn}
-use Rattle.drawing.specs.InOrOn.{spot, InOrOn}
+use Rattle.outline.specs.Drawing.{Point, corner, Turn}
+use Rattle.outline.specs.InOrOn.{spot, InOrOn}
 use Rattle.rules.specs.Lists.{In}
 use Rattle.marks.specs.Wedges.{Wedge}
 use Rattle.marks.specs.Steps.{InSteps}

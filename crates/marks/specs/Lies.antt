@@ -9,13 +9,13 @@ use native.Mathlib.Omega.{arith}
 use lib.Dec.{T, lit<}
 use lib.IntN.{ℤ}
 use Rattle.whole.specs.Ring.{v, _:*_, ring}
-use Rattle.drawing.specs.Drawing.{Point, corner, after}
-use Rattle.drawing.specs.InOrOn.{spot, OnSegment, OnSide, RightSide, OddCount, InOrOn}
-use Rattle.drawing.specs.OnSegment.{on-turned}
-use Rattle.drawing.specs.Passing.{higher, left, passes, crosses, grown, passing}
-use Rattle.drawing.specs.Odd.{_⊕_, odd, odd-tells}
-use Rattle.drawing.specs.Spell.{I}
-use Rattle.drawing.specs.Tells.{Tells}
+use Rattle.outline.specs.Drawing.{Point, corner, after}
+use Rattle.outline.specs.InOrOn.{spot, OnSegment, OnSide, RightSide, OddCount, InOrOn}
+use Rattle.outline.specs.OnSegment.{on-turned}
+use Rattle.outline.specs.Passing.{higher, left, passes, crosses, grown, passing}
+use Rattle.outline.specs.Odd.{_⊕_, odd, odd-tells}
+use Rattle.outline.specs.Spell.{I}
+use Rattle.outline.specs.Tells.{Tells}
 use Rattle.marks.specs.Lands.{triangle}
 
 abbrev pub On : Point → Point → Point → Type 0

@@ -7,7 +7,7 @@ use lib.Dec.{lit<}
 use lib.IntN.{ℤ, pos, _+ℤ_, _*ℤ_}
 use lib.Ieee.{Float, binary64, ofBits, ofInt, div}
 use Rattle.whole.specs.Ring.{v, con, _:+_, _:*_, ring}
-use Rattle.drawing.specs.Drawing.{Point, corner}
+use Rattle.outline.specs.Drawing.{Point, corner}
 use Rattle.marks.specs.Wedges.{Wedge}
 use Rattle.marks.specs.Steps.{Rest, InSteps}
 use Rattle.marks.specs.Lands.{area, across, upward, wedge-area, weighed, LandsBy}

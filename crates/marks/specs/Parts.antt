@@ -7,7 +7,7 @@ use lib.IntN.{ℤ, pos, natAbs, _+ℤ_, _*ℤ_}
 use lib.ListN.{length, getD, drop}
 use lib.Signed.{_<ℤ_}
 use Rattle.limits.specs.Limits.{furthest}
-use Rattle.drawing.specs.Drawing.{Point, corner, corners, InRange, Turn}
+use Rattle.outline.specs.Drawing.{Point, corner, corners, InRange, Turn}
 use Rattle.drawing.specs.Parts.{Close}
 use Rattle.rules.specs.Lists.{In}
 use Rattle.rules.specs.Refusals.{FirstFailed}

@@ -6,13 +6,13 @@ use mathlib.Core.List.{List, [], _∷_}
 use Prim.Native.Nat.{ℕ, zero, suc, _<_}
 use native.Mathlib.Omega.{arith}
 use lib.IntN.{ℤ, pos, negsuc, natAbs}
-use Rattle.drawing.specs.Drawing.{corner, corners, Turn, Sees}
-use Rattle.drawing.specs.InOrOn.{Spot, spot, OnSegment}
-use Rattle.drawing.specs.TwoPoints.{Differ}
-use Rattle.drawing.specs.OneLine.{SightLine, one-line}
-use Rattle.drawing.specs.Round.{next-inner, next-last}
-use Rattle.drawing.specs.Seeing.{sees-mutual}
-use Rattle.drawing.specs.Unbroken.{none-between, seen-area}
+use Rattle.outline.specs.Drawing.{corner, corners, Turn, Sees}
+use Rattle.outline.specs.InOrOn.{Spot, spot, OnSegment}
+use Rattle.outline.specs.TwoPoints.{Differ}
+use Rattle.outline.specs.OneLine.{SightLine, one-line}
+use Rattle.outline.specs.Round.{next-inner, next-last}
+use Rattle.outline.specs.Seeing.{sees-mutual}
+use Rattle.outline.specs.Unbroken.{none-between, seen-area}
 use Rattle.pair.specs.Passing.{SoundPair, equally-many}
 use Rattle.rules.specs.Lists.{In}
 use Rattle.rules.specs.Cutting.{Pairs, Side, Joined, Region, pieces}

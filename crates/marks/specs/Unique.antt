@@ -8,7 +8,7 @@ use native.Mathlib.Omega.{arith}
 use native.Mathlib.Decide.{decLt}
 use lib.IntN.{ℤ}
 use lib.ListN.{length}
-use Rattle.drawing.specs.Drawing.{Point, corners}
+use Rattle.outline.specs.Drawing.{Point, corners}
 use Rattle.rules.specs.Cutting.{pieces}
 use Rattle.rules.specs.Centre.{Layout, layout-unique}
 use Rattle.rules.specs.Valid.{first-unique}

@@ -17,12 +17,12 @@ use Rattle.whole.specs.Order.{Nonneg, Positive, nonneg-add, nonneg-mul, nonneg-
 use Rattle.whole.specs.Order.{positive-add, positive-mul, positive-nonneg}
 use Rattle.whole.specs.Order.{positive-not, positive-pred, positive-cancel, nonneg-cancel, nonneg-zero, zero-cancel}
 use Rattle.whole.specs.Order.{le-sub, sub-le, lt-sub, Sign, plus, nought, minus, sign}
-use Rattle.drawing.specs.Drawing.{Point, Turn}
-use Rattle.drawing.specs.Passing.{higher, left}
-use Rattle.drawing.specs.Odd.{_⊕_}
-use Rattle.drawing.specs.Tells.{is-yes, is-no}
-use Rattle.drawing.specs.Tests.{lt-tells}
-use Rattle.drawing.specs.Spell.{A, B, C, D, P, Q, O, I, env, env4, TurnE, At}
+use Rattle.outline.specs.Drawing.{Point, Turn}
+use Rattle.outline.specs.Passing.{higher, left}
+use Rattle.outline.specs.Odd.{_⊕_}
+use Rattle.outline.specs.Tells.{is-yes, is-no}
+use Rattle.outline.specs.Tests.{lt-tells}
+use Rattle.outline.specs.Spell.{A, B, C, D, P, Q, O, I, env, env4, TurnE, At}
 use Rattle.marks.specs.Lies.{On, crossings, Lies, round-lies}
 
 abbrev pub Weighs : Point → Point → Point → Point → Type 0

@@ -2,8 +2,8 @@
 // put it, by the wedges of the pair's cutting.
 ghost use mathlib.Core.Path.{_≡_};
 ghost use lib.ListN.{length};
-ghost use Rattle.drawing.specs.Drawing.{corners};
-ghost use Rattle.drawing.specs.Tells.{Tells};
+ghost use Rattle.outline.specs.Drawing.{corners};
+ghost use Rattle.outline.specs.Tells.{Tells};
 ghost use Rattle.marks.specs.Carry.{mark, MarkInRange, CarriesMark, result};
 ghost use Rattle.marks.specs.Parts.{Refusal, Pair, Read, Finds};
 

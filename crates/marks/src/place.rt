@@ -1,6 +1,6 @@
 // The place of a mark in the second drawing: the corners of a wedge there, weighed.
 ghost use Prim.Native.Nat.{_<_};
-ghost use Rattle.drawing.specs.Drawing.{corners, InRange};
+ghost use Rattle.outline.specs.Drawing.{corners, InRange};
 ghost use Rattle.marks.specs.Parts.{Weights, Reach, Weighed, Placed};
 use crate::Landing;
 use crate::steps::steps;

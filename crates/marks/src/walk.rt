@@ -2,7 +2,7 @@
 ghost use mathlib.Core.Path.{_≡_};
 ghost use Prim.Native.Nat.{_<_};
 ghost use lib.ListN.{length};
-ghost use Rattle.drawing.specs.Drawing.{corners};
+ghost use Rattle.outline.specs.Drawing.{corners};
 ghost use Rattle.drawing.specs.Parts.{Close};
 ghost use Rattle.marks.specs.Lands.{Lands};
 ghost use Rattle.marks.specs.Parts.{point, Pair, Piece, piece-fan, follow, is-place, Read, Finds};

@@ -1,7 +1,7 @@
 // One wedge: whether it holds the mark, and where the mark lands by it.
 ghost use mathlib.Core.Path.{_≡_};
 ghost use Prim.Native.Nat.{_<_};
-ghost use Rattle.drawing.specs.Drawing.{corners, InRange};
+ghost use Rattle.outline.specs.Drawing.{corners, InRange};
 ghost use Rattle.drawing.specs.Parts.{Close};
 ghost use Rattle.marks.specs.Wedges.{wedge};
 ghost use Rattle.marks.specs.Parts.{point, IsCorner, IsTurn, IsArea, Pair, Tried};

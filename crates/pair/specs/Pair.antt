@@ -7,7 +7,7 @@ use lib.IntN.{ℤ, pos}
 use lib.ListN.{length}
 use lib.Signed.{_<ℤ_}
 use Rattle.limits.specs.Limits.{fewest-corners, most-corners}
-use Rattle.drawing.specs.Drawing.{corners, InRange, Simple, doubled-area}
+use Rattle.outline.specs.Drawing.{corners, InRange, Simple, doubled-area}
 use Rattle.drawing.specs.Judgement.{first-number, second-number}
 use Rattle.drawing.specs.declared.Judged.{Judged}
 use Rattle.rules.specs.Refusals.{Line, line, FirstFailed, failed-unique}

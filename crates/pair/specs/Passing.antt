@@ -5,7 +5,7 @@ use mathlib.Core.List.{List}
 use Prim.Native.Nat.{ℕ}
 use native.Mathlib.Omega.{arith}
 use lib.IntN.{ℤ}
-use Rattle.drawing.specs.Drawing.{corners, Shaped, Sound}
+use Rattle.outline.specs.Drawing.{corners, Shaped, Sound}
 use Rattle.drawing.specs.Judging.{Because}
 use Rattle.drawing.specs.declared.Judged.{Judged}
 use Rattle.drawing.specs.declared.Judged.the-variants as is

@@ -3,7 +3,7 @@
 ghost use mathlib.Core.Path.{_≡_};
 ghost use Prim.Native.Nat.{_≤_};
 ghost use Rattle.drawing.specs.Judgement.{number-from};
-ghost use Rattle.drawing.specs.Tells.{Tells};
+ghost use Rattle.outline.specs.Tells.{Tells};
 ghost use Rattle.pair.specs.Pair.{Alike, Checks, number-of};
 use limits::FEWEST_CORNERS;
 use limits::MOST_CORNERS;

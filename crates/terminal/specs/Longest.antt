@@ -7,7 +7,7 @@ use native.Mathlib.Omega.{arith}
 use lib.IntN.{ℤ}
 use lib.ListN.{length, take, length-append, length-take}
 use Rattle.limits.specs.Limits.{Roomy, room, longest-line}
-use Rattle.drawing.specs.Drawing.{corners}
+use Rattle.outline.specs.Drawing.{corners}
 use Rattle.rules.specs.Cutting.{pieces}
 use Rattle.rules.specs.Centre.{Lowest, layout-size}
 use Rattle.rules.specs.Count.{pieces-few, room-enough}

@@ -3,7 +3,7 @@ use native.Mathlib.Omega.{arith}
 use lib.ListN.{length}
 use borrow.Author.Needs.{needs}
 use Rattle.limits.specs.Limits.{Roomy}
-use Rattle.drawing.specs.Drawing.{corners}
+use Rattle.outline.specs.Drawing.{corners}
 use Rattle.pair.specs.Pair.{Alike}
 use Rattle.desk.proofs.Laws.{line-1, alike, line-2, lines-3-to-8, ready}
 use Rattle.desk.proofs.answer.Statement.{statement}

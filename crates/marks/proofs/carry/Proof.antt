@@ -6,7 +6,7 @@ use borrow.Author.Tests.{not-true, not-false}
 use denote.Ref.{now}
 use lib.Seq.{length-take-le}
 use mir.Facts.{toZ-ofZ}
-use Rattle.drawing.specs.Tells.{Tells, if-yes, if-no}
+use Rattle.outline.specs.Tells.{Tells, if-yes, if-no}
 use Rattle.pair.specs.Passing.{SoundPair}
 use Rattle.desk.specs.Answer.{Answers}
 use Rattle.marks.specs.Carry.{mark, MarkInRange}

@@ -4,7 +4,7 @@ use lib.Signed.{clashℤ}
 use borrow.Author.Needs.{needs}
 use mir.Facts.{toZ-ofZ}
 use Rattle.whole.specs.Bounds.{lt-yes, lt-no}
-use Rattle.drawing.specs.Tells.{never}
+use Rattle.outline.specs.Tells.{never}
 use Rattle.drawing.proofs.Machine.{by-le}
 use Rattle.marks.proofs.in_range.Statement.{statement}
 use Rattle.marks.proofs.in_range.Tie as tie

@@ -5,7 +5,7 @@ use mir.Syntax.{w32, w64}
 use mir.Val.{toZ, ofZ}
 use Rattle.limits.specs.Limits.{furthest}
 use Rattle.whole.specs.Bounds.{Val, fit, par, loc, bound}
-use Rattle.drawing.specs.Drawing.{Point}
+use Rattle.outline.specs.Drawing.{Point}
 use Rattle.marks.specs.Parts.{Finds}
 use Rattle.marks.proofs.Ways.{close-mark}
 use Rattle.marks.proofs.landed.Statement.{statement}

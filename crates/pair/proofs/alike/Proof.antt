@@ -2,7 +2,7 @@
 use native.Mathlib.Omega.{arith}
 use borrow.Author.Needs.{needs}
 use lib.Dec.{leb→le, le→leb}
-use Rattle.drawing.specs.Tells.{never}
+use Rattle.outline.specs.Tells.{never}
 use Rattle.pair.proofs.alike.Statement.{statement}
 use Rattle.pair.proofs.alike.Tie as tie
 

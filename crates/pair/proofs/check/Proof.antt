@@ -1,7 +1,7 @@
 -- `pair::check` meets its contract: a law for each return.
 use borrow.Author.Needs.{needs}
 use borrow.Author.Tests.{not-true, not-false}
-use Rattle.drawing.specs.Tells.{if-yes, if-no}
+use Rattle.outline.specs.Tells.{if-yes, if-no}
 use Rattle.pair.specs.Pair.{Alike}
 use Rattle.pair.proofs.Laws.{not-alike, first-decides, second-decides}
 use Rattle.pair.proofs.check.Statement.{statement}

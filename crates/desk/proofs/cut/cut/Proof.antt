@@ -5,7 +5,7 @@ use native.Mathlib.Omega.{arith}
 use borrow.Author.Needs.{needs}
 use borrow.Author.Tests.{not-true, not-false}
 use Rattle.limits.specs.Limits.{all-cells}
-use Rattle.drawing.specs.Tells.{if-yes, if-no}
+use Rattle.outline.specs.Tells.{if-yes, if-no}
 use Rattle.desk.specs.Stages.{Served}
 use Rattle.desk.proofs.Cutting.{cut-1, cut-2}
 use Rattle.desk.proofs.cut.cut.Statement.{statement}

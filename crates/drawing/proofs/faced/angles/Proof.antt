@@ -4,7 +4,7 @@ use Prim.Native.Nat.{ℕ, _+_, _-_, _≤_}
 use native.Mathlib.Omega.{arith}
 use lib.Dec.{eqb}
 use Rattle.whole.specs.Masks.{Made, made-none, made-more, made-all}
-use Rattle.drawing.specs.Tells.{eq-tells}
+use Rattle.outline.specs.Tells.{eq-tells}
 use Rattle.drawing.specs.Known.{need-of}
 use Rattle.drawing.proofs.Machine.{digit, digit-fits, double-fits}
 use Rattle.drawing.proofs.faced.angles.Statement.{statement}

@@ -11,9 +11,9 @@ use mir.Val.{ofZ}
 use borrow.Author.Needs.{needs}
 use Rattle.whole.specs.Bits.{shifted-one}
 use Rattle.whole.specs.Masks.{Marks, Made, made-none, made-more, made-room, made-all}
-use Rattle.drawing.specs.Drawing.{corners, after}
+use Rattle.outline.specs.Drawing.{corners, after}
 use Rattle.drawing.specs.Known.{Left, OnLine, Along, Low, West}
-use Rattle.drawing.specs.Round.{next-prev, next-down}
+use Rattle.outline.specs.Round.{next-prev, next-down}
 use Rattle.drawing.specs.Away.{Away, cross-turn, less, less-back}
 use Rattle.drawing.specs.Digits.{right-marks, along-marks}
 use Rattle.drawing.proofs.Machine.{back, by-lt, by-nought, held, x-away, y-away}

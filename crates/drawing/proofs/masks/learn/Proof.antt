@@ -4,7 +4,7 @@ use Prim.Native.Nat.{_-_, _≤_, _<_}
 use native.Mathlib.Omega.{arith}
 use lib.ListN.{length, length-set}
 use Rattle.limits.specs.Limits.{most-corners}
-use Rattle.drawing.specs.Drawing.{corners}
+use Rattle.outline.specs.Drawing.{corners}
 use Rattle.drawing.specs.Known.{AllKnown}
 use Rattle.drawing.proofs.Learning.{known-more}
 use Rattle.drawing.proofs.masks.learn.Statement.{statement}

@@ -4,9 +4,9 @@ use mathlib.Core.Logic.{inl, inr}
 use native.Mathlib.Omega.{arith}
 use lib.Signed.{clashℤ}
 use Rattle.whole.specs.Bounds.{lt-yes, lt-no}
-use Rattle.drawing.specs.Drawing.{corner, corners, prev, after, Turn}
+use Rattle.outline.specs.Drawing.{corner, corners, prev, after, Turn}
 use Rattle.drawing.specs.Known.{OnSide}
-use Rattle.drawing.specs.Tells.{if-yes, if-no}
+use Rattle.outline.specs.Tells.{if-yes, if-no}
 use Rattle.drawing.proofs.Machine.{back, held, turn-same}
 use borrow.Author.Needs.{needs}
 use Rattle.drawing.proofs.masks.need.Statement.{statement}

@@ -1,9 +1,9 @@
 -- `drawing::masks::on_side` meets its contract: no mark passed is a side that corner i is on.
 use Prim.Native.Nat.{_<_}
 use native.Mathlib.Omega.{arith}
-use Rattle.drawing.specs.Drawing.{corners}
+use Rattle.outline.specs.Drawing.{corners}
 use Rattle.drawing.specs.Known.{Within}
-use Rattle.drawing.specs.Tells.{if-yes, if-no, surely, never}
+use Rattle.outline.specs.Tells.{if-yes, if-no, surely, never}
 use Rattle.whole.specs.Masks.{marked, Scan, mark, scan-start, scan-end, scan-mark, scan-less, scan-more, mark-below}
 use Rattle.drawing.proofs.masks.on_side.Statement.{statement}
 use Rattle.drawing.proofs.masks.on_side.Tie as tie

@@ -1,6 +1,6 @@
 -- `drawing::masks::within` meets its contract.
 use mathlib.Core.Path.{refl, ap, _∙_}
-use Rattle.drawing.specs.Drawing.{corner}
+use Rattle.outline.specs.Drawing.{corner}
 use Rattle.drawing.proofs.Machine.{by-le, held, dot-same}
 use borrow.Author.Needs.{needs}
 use Rattle.drawing.proofs.masks.within.Statement.{statement}

@@ -1,7 +1,7 @@
 -- `drawing::seeing::meet_side` meets its contract.
 use mathlib.Core.Path.{_≡_, ap, _∙_}
 use borrow.Author.Needs.{needs}
-use Rattle.drawing.specs.Drawing.{corner, after}
+use Rattle.outline.specs.Drawing.{corner, after}
 use Rattle.drawing.specs.Parts.{point}
 use Rattle.drawing.specs.Looking.{open-reached}
 use Rattle.drawing.proofs.Machine.{reached-as, meets-as}

@@ -1,7 +1,7 @@
 -- `drawing::seeing::to_look_at` meets its contract.
 use mathlib.Core.Path.{_≡_, ap, _∙_}
 use borrow.Author.Needs.{needs}
-use Rattle.drawing.specs.Drawing.{Point}
+use Rattle.outline.specs.Drawing.{Point}
 use Rattle.drawing.specs.Digits.{look-digits, look-digits-back, looks}
 use Rattle.drawing.proofs.Machine.{the-x, the-y}
 use Rattle.drawing.proofs.seeing.to_look_at.Statement.{statement}

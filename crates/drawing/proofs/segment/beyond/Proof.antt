@@ -6,8 +6,8 @@ use lib.Signed.{ltZ, _<ℤ_}
 use mir.Syntax.{w64}
 use mir.Val.{SFits}
 use mir.Facts.{toZ-ofZ}
-use Rattle.drawing.specs.Tells.{Tells, if-yes, if-no, surely, never, and-tells, or-tells}
-use Rattle.drawing.specs.FarApart.{Below}
+use Rattle.outline.specs.Tells.{Tells, if-yes, if-no, surely, never, and-tells, or-tells}
+use Rattle.outline.specs.FarApart.{Below}
 use Rattle.drawing.proofs.Machine.{back, by-lt}
 use Rattle.drawing.proofs.segment.beyond.Statement.{statement}
 use Rattle.drawing.proofs.segment.beyond.Tie as tie

@@ -1,8 +1,8 @@
 -- `drawing::segment::far_apart` meets its contract.
 use mathlib.Core.Logic.{inl}
 use borrow.Author.Needs.{needs}
-use Rattle.drawing.specs.Tells.{Tells, if-yes, if-no, surely, never, or-tells}
-use Rattle.drawing.specs.FarApart.{Beyond}
+use Rattle.outline.specs.Tells.{Tells, if-yes, if-no, surely, never, or-tells}
+use Rattle.outline.specs.FarApart.{Beyond}
 use Rattle.drawing.proofs.Machine.{the-x, the-y}
 use Rattle.drawing.proofs.segment.far_apart.Statement.{statement}
 use Rattle.drawing.proofs.segment.far_apart.Tie as tie

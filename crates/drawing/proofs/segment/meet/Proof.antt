@@ -5,10 +5,10 @@ use lib.IntN.{ℤ}
 use mir.Syntax.{w64}
 use mir.Val.{ofZ}
 use borrow.Author.Needs.{needs}
-use Rattle.drawing.specs.Drawing.{Turn}
-use Rattle.drawing.specs.Tells.{Tells, if-yes, if-no}
+use Rattle.outline.specs.Drawing.{Turn}
+use Rattle.outline.specs.Tells.{Tells, if-yes, if-no}
 use Rattle.drawing.specs.Parts.{point}
-use Rattle.drawing.specs.Segments.{OneSide}
+use Rattle.outline.specs.Segments.{OneSide}
 use Rattle.drawing.specs.Meeting.{missed, flat-touched, flat-missed, end-touched, crossed}
 use Rattle.drawing.proofs.Machine.{back, held, same-bits}
 use Rattle.drawing.proofs.segment.meet.Statement.{statement}

@@ -2,7 +2,7 @@
 use mathlib.Core.Path.{_≡_}
 use Prim.Native.Nat.{_≤_, _-_}
 use native.Mathlib.Omega.{arith}
-use Rattle.drawing.specs.Drawing.{corners}
+use Rattle.outline.specs.Drawing.{corners}
 use Rattle.drawing.proofs.Blank.{Blank, rows-none, rows-more, blank-marked}
 use Rattle.drawing.proofs.table.blank.Statement.{statement}
 use Rattle.drawing.proofs.table.blank.Tie as tie

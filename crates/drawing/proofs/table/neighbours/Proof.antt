@@ -4,7 +4,7 @@ use Prim.Native.Nat.{_≤_, _-_}
 use native.Mathlib.Omega.{arith}
 use lib.ListN.{length}
 use Rattle.limits.specs.Limits.{all-cells}
-use Rattle.drawing.specs.Drawing.{corners}
+use Rattle.outline.specs.Drawing.{corners}
 use Rattle.drawing.specs.Parts.{None, Grows}
 use Rattle.drawing.proofs.Growing.{grows-on}
 use Rattle.drawing.proofs.Neighbours.{NextDone, next-none, next-more, next-all}

@@ -2,7 +2,7 @@
 use mathlib.Core.Path.{ap}
 use borrow.Author.Needs.{needs, sfits-of}
 use mir.Facts.{toZ-ofZ}
-use Rattle.drawing.specs.Drawing.{Point}
+use Rattle.outline.specs.Drawing.{Point}
 use Rattle.drawing.proofs.Machine.{the-x, the-y}
 use Rattle.marks.proofs.Sums.{reach-x, reach-y, share-of, told-as}
 use Rattle.marks.proofs.place.placed.Statement.{statement}

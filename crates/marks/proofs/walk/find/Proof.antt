@@ -4,7 +4,7 @@ use Prim.Native.Nat.{_+_, _-_, _≤_}
 use native.Mathlib.Omega.{arith}
 use lib.ListN.{length}
 use Rattle.marks.specs.Parts.{point, Piece}
-use Rattle.drawing.specs.Drawing.{corners}
+use Rattle.outline.specs.Drawing.{corners}
 use Rattle.marks.proofs.Answers.{PassedTo, passed-no-piece, part-fits, part-piece}
 use Rattle.marks.proofs.Answers.{piece-hit, piece-missed, pieces-passed}
 use Rattle.marks.proofs.walk.find.Statement.{statement}

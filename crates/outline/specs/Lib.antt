@@ -1,0 +1,56 @@
+-- ---- to be believed: 01's definitions of a drawing, of a point in or on it, and of sight
+pub mod Drawing
+pub mod InOrOn
+-- ---- laws: truth values that tell, segments, a point against a segment, segments far apart, how far a side reaches
+-- that meets a segment, the corners' numbers, the sides of a simple drawing, sight
+pub mod Tells
+pub mod Spell
+pub mod Segments
+pub mod Quick
+pub mod FarApart
+pub mod Ends
+pub mod Against
+pub mod Extent
+pub mod Round
+pub mod Sides
+pub mod Seeing
+-- ---- laws of "in or on": points on segments, sides that pass to the right, an odd number of them
+pub mod OnSegment
+pub mod Passing
+pub mod Odd
+-- and of sight: no corner stands on the line between two that see each other; no such line has a part of another
+pub mod Unbroken
+pub mod TwoPoints
+pub mod OneLine
+-- ---- the tests that antt computes
+pub mod Tests
+-- and of whole drawings, and what they say of 01's outlines
+pub mod Mirror
+pub mod Outlines
+pub mod Placed
+pub mod Parity
+pub mod ParitySide
+pub mod ParityRound
+pub mod Stretch
+pub mod Between
+pub mod Through
+pub mod Near
+pub mod EveryPoint
+pub mod Reading
+pub mod CentreTest
+pub mod CentreSight
+pub mod CentreMirror
+pub mod Way
+pub mod OneLook
+pub mod Change
+pub mod Value
+pub mod Ray
+pub mod AtCorner
+pub mod HalfWay
+pub mod OneRow
+pub mod RowsOfArea
+pub mod BothAngles
+pub mod Kinds
+pub mod Outside
+pub mod Affine
+pub mod Moves
