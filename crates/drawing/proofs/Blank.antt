@@ -1,6 +1,6 @@
 -- Rows of noughts: one row as it is written, and all of them.
 use mathlib.Core.Path.{_≡_, refl, _∙_}
-use mathlib.Core.Logic.{by-cases}
+use mathlib.Core.Logic.{inl, by-cases}
 use mathlib.Core.List.{List}
 use Prim.Native.Nat.{ℕ, _+_, _≤_, _<_}
 use native.Mathlib.Decide.{ℕ-discrete}
@@ -10,7 +10,7 @@ use lib.ListN.{length, getD, set, length-set}
 use lib.Seq.{getD-set-same, getD-set-other}
 use Rattle.limits.specs.Limits.{most-corners, all-cells, place}
 use Rattle.outline.specs.Drawing.{corners}
-use Rattle.drawing.specs.Parts.{Marked, None, RowBlank}
+use Rattle.drawing.specs.Table.{Marked, None, RowBlank}
 
 -- ---- one row
 pub blank-none : {i : ℕ} {o : List ℕ} → RowBlank i 0 o o
@@ -45,9 +45,8 @@ rows-more {n} {i} few hi b r = record {
 
 pub blank-marked : {d : List ℤ} {o c : List ℕ} → Blank (corners d) (corners d) o c → Marked d None o c
 blank-marked b = record {
-  sound = λ p q hp hq e. absurd (omega (arith, e, b .blank p q hp hq));
-  small = λ p q hp hq. omega (arith, b .blank p q hp hq);
-  whole = λ p q hp hq n. absurd n;
+  codes = λ p q hp hq. inl (b .blank p q hp hq);
+  done = λ p q hp hq n. absurd n;
   kept = b .kept;
   size = b .size;
 }

@@ -11,5 +11,9 @@ mod Growing
 mod Pairs
 -- the neighbours
 mod Neighbours
+-- lines of sight that begin with a side
+mod Begun
 -- a row, and all rows
 mod Rows
+-- third corners
+mod Settling

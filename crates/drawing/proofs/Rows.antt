@@ -6,17 +6,18 @@ use Prim.Native.Nat.{ℕ, _+_, _-_, _/_, _^_, _≤_, _<_}
 use native.Mathlib.Decide.{ℕ-discrete, decLt}
 use native.Mathlib.Omega.{arith}
 use lib.IntN.{ℤ}
-use lib.ListN.{length, getD}
-use Rattle.limits.specs.Limits.{most-corners, all-cells, place}
+use lib.ListN.{length}
+use Rattle.limits.specs.Limits.{all-cells}
 use Rattle.whole.specs.Bits.{bit, bit-nought, bit-from, others-stay}
 use Rattle.whole.specs.Masks.{marked, mark, others}
-use Rattle.outline.specs.Drawing.{corners, Beside, Sees}
-use Rattle.drawing.specs.Sight.{Seen}
-use Rattle.drawing.specs.Parts.{Marked, RowsDone, Grows, Decided}
+use Rattle.outline.specs.Drawing.{Sound, corners, Angle, Beside}
+use Rattle.outline.specs.InOrOn.{CentreSees}
+use Rattle.outline.specs.Seeing.{beside-back, beside-or}
+use Rattle.outline.specs.CentreSight.{centre-mutual}
+use Rattle.outline.specs.Begins.{Begins, faces}
+use Rattle.drawing.specs.Table.{Early, RowsDone, Grows, Decided}
 use Rattle.drawing.specs.Known.{FacedBy}
-use Rattle.drawing.specs.Looking.{sees-facing}
-use Rattle.outline.specs.Seeing.{sees-mutual, beside-back, beside-or}
-use Rattle.drawing.proofs.Growing.{grows-on, grows-as}
+use Rattle.drawing.proofs.Growing.{grows-on, grows-in, grows-as}
 use Rattle.drawing.proofs.Pairs.{Pair, pair-added}
 
 -- ---- a row: the marks of `rest` are still to come, digit k of it for corner i + k
@@ -24,42 +25,53 @@ abbrev pub RowDone : List ℤ → ℕ → ℕ → ℕ → ℕ → Type 0
 RowDone d i rest p q =
     RowsDone d i p q ⊎ (((p ≡ i) × (i ≤ q) × (bit rest (q - i) ≡ 0)) ⊎ ((q ≡ i) × (i ≤ p) × (bit rest (p - i) ≡ 0)))
 
-module _ {d : List ℤ} {i : ℕ} (hi : i < corners d) where
-  -- at first: whoever sees i, and is no neighbour, has i inside the angle
+-- told early, the other way round
+pub early-back : (d : List ℤ) (p q : ℕ) → Early d p q → Early d q p
+early-back d p q (inl b) = inl (beside-back d p q b)
+early-back d p q (inr (inl b)) = inr (inr b)
+early-back d p q (inr (inr b)) = inr (inl b)
+
+module _ {d : List ℤ} (sound : Sound d) {i : ℕ} (hi : i < corners d) where
+  -- at first: whoever sees i as a centre, and is not told early, has i inside the angle
   pub row-start : {f : ℕ} {c : List ℕ} → FacedBy d i f → Grows d (RowsDone d i) (RowDone d i (f / 2 ^ i)) c c
-  row-start {f} {c} marks = grows-as start
+  row-start {f} {c} marks = grows-as sound start
     where
-      off : (q : ℕ) → q < corners d → i ≤ q → bit (f / 2 ^ i) (q - i) ≡ 0 → Sees d q i → ¬ Beside d q i → ⊥
-      off q hq l z s n =
+      off : (q : ℕ) → q < corners d → i ≤ q → bit (f / 2 ^ i) (q - i) ≡ 0 → ¬ Angle d q i
+      off q hq l z a =
           let at : bit f (i + (q - i)) ≡ 0 = sym (bit-from f i (q - i)) ∙ z in
           let is : i + (q - i) ≡ q = omega (arith, l) in
-          omega (arith, ap (bit f) is, at, marked marks q hq (sees-facing d q i n s))
+          omega (arith, ap (bit f) is, at, marked marks q hq a)
 
-      near : (q : ℕ) → q < corners d → i ≤ q → bit (f / 2 ^ i) (q - i) ≡ 0 → Sees d q i → Beside d q i
+      near : (q : ℕ) → q < corners d → i ≤ q → bit (f / 2 ^ i) (q - i) ≡ 0 → CentreSees d q i → Early d q i
       near q hq l z s = go (beside-or d q i)
         where
-          go : Beside d q i ⊎ (¬ Beside d q i) → Beside d q i
-          go (inl b) = b
-          go (inr n) = absurd (off q hq l z s n)
+          told : Angle d q i ⊎ Begins d q i → Early d q i
+          told (inl a) = absurd (off q hq l z a)
+          told (inr b) = inr (inl b)
 
-      start : (p q : ℕ) → p < corners d → q < corners d → RowDone d i (f / 2 ^ i) p q → Sees d p q → RowsDone d i p q
+          go : Beside d q i ⊎ (¬ Beside d q i) → Early d q i
+          go (inl b) = inl b
+          go (inr n) = told (faces d sound q i hq hi n s)
+
+      start : (p q : ℕ) → p < corners d → q < corners d → RowDone d i (f / 2 ^ i) p q → CentreSees d p q →
+          RowsDone d i p q
       start p q hp hq (inl h) s = h
       start p q hp hq (inr (inl h)) s =
-          let back = sees-mutual (subst (λ x. Sees d x q) (h .0) s) in
-          inl (subst (λ x. Beside d x q) (sym (h .0)) (beside-back d q i (near q hq (h .1) (h .2) back)))
+          let back = centre-mutual (subst (λ x. CentreSees d x q) (h .0) s) in
+          inl (subst (λ x. Early d x q) (sym (h .0)) (early-back d q i (near q hq (h .1) (h .2) back)))
       start p q hp hq (inr (inr h)) s =
-          inl (subst (λ x. Beside d p x) (sym (h .0)) (near p hp (h .1) (h .2) (subst (λ x. Sees d p x) (h .0) s)))
+          inl (subst (λ x. Early d p x) (sym (h .0)) (near p hp (h .1) (h .2) (subst (λ x. CentreSees d p x) (h .0) s)))
 
   -- the next mark is passed
   row-more : {rest j : ℕ} {A : ℕ → ℕ → Type 0} {c : List ℕ} → rest < 2 ^ 64 → ¬ (rest ≡ 0) → j ≡ i + mark rest →
-      ((p q : ℕ) → RowDone d i rest p q → A p q) → ((p q : ℕ) → Pair i j p q → Sees d p q → A p q) →
+      ((p q : ℕ) → RowDone d i rest p q → A p q) → ((p q : ℕ) → Pair i j p q → CentreSees d p q → A p q) →
       Grows d A (RowDone d i (others rest)) c c
-  row-more {rest} {j} {A} fits n is f g = grows-as more
+  row-more {rest} {j} {A} fits n is f g = grows-as sound more
     where
       stays : (k : ℕ) → ¬ (k ≡ mark rest) → bit (others rest) k ≡ 0 → bit rest k ≡ 0
       stays k x z = sym (others-stay 64 rest k fits (omega arith) x) ∙ z
 
-      more : (p q : ℕ) → p < corners d → q < corners d → RowDone d i (others rest) p q → Sees d p q → A p q
+      more : (p q : ℕ) → p < corners d → q < corners d → RowDone d i (others rest) p q → CentreSees d p q → A p q
       more p q hp hq (inl h) s = f p q (inl h)
       more p q hp hq (inr (inl h)) s =
           by-cases (ℕ-discrete (q - i) (mark rest)) (λ e. g p q (inl (h .0, omega (arith, h .1, e, is))) s)
@@ -69,7 +81,7 @@ module _ {d : List ℤ} {i : ℕ} (hi : i < corners d) where
           (λ x. f p q (inr (inr (h .0, h .1, stays (p - i) x (h .2)))))
 
   pub row-end : {rest : ℕ} {c : List ℕ} → rest ≡ 0 → Grows d (RowDone d i rest) (RowsDone d (i + 1)) c c
-  row-end {rest} z = grows-as all
+  row-end {rest} z = grows-in all
     where
       dark : (k : ℕ) → bit rest k ≡ 0
       dark k = ap (λ x. bit x k) z ∙ bit-nought k
@@ -86,47 +98,33 @@ module _ {d : List ℤ} {i : ℕ} (hi : i < corners d) where
           (λ x. by-cases (decLt p i) (λ y. inl (inr (inl y)))
           (λ y. inr (inr (omega arith, omega arith, dark (p - i)))))
 
-      all : (p q : ℕ) → p < corners d → q < corners d → RowsDone d (i + 1) p q → Sees d p q → RowDone d i rest p q
-      all p q hp hq (inl b) s = inl (inl b)
-      all p q hp hq (inr (inl l)) s = first p q l
-      all p q hp hq (inr (inr l)) s = second p q l
+      all : (p q : ℕ) → p < corners d → q < corners d → RowsDone d (i + 1) p q → RowDone d i rest p q
+      all p q hp hq (inl b) = inl (inl b)
+      all p q hp hq (inr (inl l)) = first p q l
+      all p q hp hq (inr (inr l)) = second p q l
 
 -- the next mark is decided
-pub row-decided : {d : List ℤ} {i j rest : ℕ} {c t : List ℕ} → corners d ≤ most-corners → i < corners d →
-    j < corners d → all-cells ≤ length c → rest < 2 ^ 64 → ¬ (rest ≡ 0) → j ≡ i + mark rest → Decided d i j c t →
+pub row-decided : {d : List ℤ} {i j rest : ℕ} {c t : List ℕ} → Sound d → i < corners d → j < corners d →
+    all-cells ≤ length c → rest < 2 ^ 64 → ¬ (rest ≡ 0) → j ≡ i + mark rest → Decided d i j c t →
     Grows d (RowDone d i rest) (RowDone d i (others rest)) c t
-row-decided few hi hj room fits n is (inl x) =
-    grows-on (pair-added _ few hi hj (x .0) room (x .1)) (row-more hi fits n is (λ p q r. inl r) (λ p q r s. inr r))
-row-decided {d} {i} {j} {rest} few hi hj room fits n is (inr x) = rw (x .1) (row-more hi fits n is (λ p q r. r) hidden)
+row-decided sound hi hj room fits n is (inl (v, k, e)) =
+    grows-on (pair-added _ (sound .shaped .few) hi hj k room e)
+    (row-more sound hi fits n is (λ p q r. inl r) (λ p q r s. inr r))
+row-decided {d} {i} {j} {rest} sound hi hj room fits n is (inr x) =
+    rw (x .1) (row-more sound hi fits n is (λ p q r. r) hidden)
   where
-    hidden : (p q : ℕ) → Pair i j p q → Sees d p q → RowDone d i rest p q
+    hidden : (p q : ℕ) → Pair i j p q → CentreSees d p q → RowDone d i rest p q
     hidden p q (inl y) s =
-        inl (inl (rw (y .0, y .1) (x .0 (subst (λ z. Sees d z j) (y .0) (subst (λ z. Sees d p z) (y .1) s)))))
+        inl (inl (rw (y .0, y .1) (x .0 (subst (λ z. CentreSees d z j) (y .0) (subst (λ z. CentreSees d p z) (y .1) s)))))
     hidden p q (inr y) s =
-        let back = subst (λ z. Sees d z i) (y .0) (subst (λ z. Sees d p z) (y .1) s) in
-        inl (inl (rw (y .0, y .1) (beside-back d i j (x .0 (sees-mutual back)))))
+        let back = subst (λ z. CentreSees d z i) (y .0) (subst (λ z. CentreSees d p z) (y .1) s) in
+        inl (inl (rw (y .0, y .1) (early-back d i j (x .0 (centre-mutual back)))))
 
--- ---- all rows
--- no row is done yet
-pub rows-first : {d : List ℤ} {c : List ℕ} → Grows d (Beside d) (RowsDone d 0) c c
-rows-first {d} = grows-as none
+-- ---- no row is done yet
+pub rows-first : {d : List ℤ} {c : List ℕ} → Grows d (Early d) (RowsDone d 0) c c
+rows-first {d} = grows-in none
   where
-    none : (p q : ℕ) → p < corners d → q < corners d → RowsDone d 0 p q → Sees d p q → Beside d p q
-    none p q hp hq (inl b) s = b
-    none p q hp hq (inr (inl l)) s = absurd (omega (arith, l))
-    none p q hp hq (inr (inr l)) s = absurd (omega (arith, l))
-
-pub rows-seen : {d : List ℤ} {o c : List ℕ} → Marked d (RowsDone d (corners d)) o c → Seen d o c
-rows-seen {d} {o} {c} m = record {
-  told = λ p q hp hq. record {
-    one = (m .sound p q hp hq, λ s. m .whole p q hp hq (inr (inl hp)) s);
-    nought = (λ e s. omega (arith, e, m .whole p q hp hq (inr (inl hp)) s), λ n. least p q hp hq n);
-  };
-  kept = m .kept;
-  size = m .size;
-}
-  where
-    least : (p q : ℕ) → p < corners d → q < corners d → ¬ Sees d p q → getD c (place p q) 0 ≡ 0
-    least p q hp hq n =
-        by-cases (ℕ-discrete (getD c (place p q) 0) 1) (λ e. absurd (n (m .sound p q hp hq e)))
-        (λ e. omega (arith, e, m .small p q hp hq))
+    none : (p q : ℕ) → p < corners d → q < corners d → RowsDone d 0 p q → Early d p q
+    none p q hp hq (inl b) = b
+    none p q hp hq (inr (inl l)) = absurd (omega (arith, l))
+    none p q hp hq (inr (inr l)) = absurd (omega (arith, l))

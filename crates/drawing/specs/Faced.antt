@@ -11,10 +11,10 @@ use lib.IntN.{ℤ}
 use Rattle.whole.specs.Order.{Positive}
 use Rattle.whole.specs.Bits.{bit, bit-small, push-low, push-high, bit-above, bit-highest, bit-lower, bit-and, bit-or}
 use Rattle.whole.specs.Masks.{Marks, marked}
-use Rattle.outline.specs.Drawing.{corner, corners, prev, Turn}
+use Rattle.outline.specs.Drawing.{corner, corners, prev, Turn, Angle}
 use Rattle.outline.specs.Round.{next-prev, prev-below}
 use Rattle.outline.specs.Against.{angle-left, angle-other, angle-both, angle-either}
-use Rattle.drawing.specs.Known.{SideTurn, Left, Facing, Needs, need-of, FacedBy, Around, Faced, AllKnown}
+use Rattle.drawing.specs.Known.{SideTurn, Left, Needs, need-of, FacedBy, Around, Faced, AllKnown}
 use Rattle.drawing.specs.declared.faced.Bends.{Bends}
 use Rattle.drawing.specs.declared.masks.Known.{Known}
 
@@ -34,27 +34,22 @@ module _ (d : List ℤ) where
     before : bit m p ≡ 1 → Positive (Turn (corner d p) (corner d i) (corner d j))
     before e = subst Positive (at-p j) (marks .yes p e .1)
 
-    pub facing-of : v ≤ bit m i + bit m p → Facing d i j
+    pub facing-of : v ≤ bit m i + bit m p → Angle d i j
     facing-of h = go needs
       where
         small : (bit m i < 2) × (bit m p < 2)
         small = (bit-small m i, bit-small m p)
 
-        go : Needs d i v → Facing d i j
-        go (inl n) = absurd (omega (arith, small .0, small .1, n .0, h))
-        go (inr (t, inl n)) = (
-          t,
-          angle-left _ _ _ _ (n .1) (before (omega (arith, small .0, small .1, n .0, h)))
-              (marks .yes i (omega (arith, small .0, small .1, n .0, h)) .1),
-        )
-        go (inr (t, inr n)) = (
-          t,
-          angle-other _ _ _ _ (n .1)
-              (by-cases (ℕ-discrete (bit m p) 1) (λ e. inl (before e))
-              (λ e. inr (marks .yes i (omega (arith, small .0, small .1, n .0, h, e)) .1))),
-        )
+        go : Needs d i v → Angle d i j
+        go (inl n) =
+            angle-left _ _ _ _ (n .1) (before (omega (arith, small .0, small .1, n .0, h)))
+            (marks .yes i (omega (arith, small .0, small .1, n .0, h)) .1)
+        go (inr n) =
+            angle-other _ _ _ _ (n .1)
+            (by-cases (ℕ-discrete (bit m p) 1) (λ e. inl (before e))
+            (λ e. inr (marks .yes i (omega (arith, small .0, small .1, n .0, h, e)) .1)))
 
-    pub facing-to : Facing d i j → v ≤ bit m i + bit m p
+    pub facing-to : Angle d i j → v ≤ bit m i + bit m p
     facing-to f = go needs
       where
         one-i : Left d j i → bit m i ≡ 1
@@ -68,11 +63,8 @@ module _ (d : List ℤ) where
         some (inr h) = omega (arith, one-i h)
 
         go : Needs d i v → v ≤ bit m i + bit m p
-        go (inl n) = absurd (f .0 (n .1))
-        go (inr (t, inl n)) =
-            let b = angle-both _ _ _ _ (n .1) (f .1) in
-            omega (arith, one-p (b .0), one-i (b .1), n .0)
-        go (inr (t, inr n)) = omega (arith, some (angle-either _ _ _ _ (n .1) (f .1)), n .0)
+        go (inl n) = let b = angle-both _ _ _ _ (n .1) f in omega (arith, one-p (b .0), one-i (b .1), n .0)
+        go (inr n) = omega (arith, some (angle-either _ _ _ _ (n .1) f), n .0)
 
 -- ---- a mask turned by one
 around-low : (n m : ℕ) → 0 < n → m < 2 ^ (n - 1) → (k : ℕ) → k < n → bit (m * 2 + 0) k ≡ bit m (prev n k)
@@ -122,14 +114,14 @@ module _ (d : List ℤ) (i : ℕ) (w : List Known) {left r : ℕ} {b : Bends} (f
     (known : AllKnown d (corners d) w) (marks : Marks (corners d) left (Left d i))
     (two : Marks (corners d) (b .two) (λ j. need-of w j ≡ 2))
     (one : Marks (corners d) (b .one) (λ j. need-of w j ≡ 1)) where
-  faced-to : (j : ℕ) → j < corners d → need-of w j ≤ bit left j + bit left (prev (corners d) j) → Facing d j i
+  faced-to : (j : ℕ) → j < corners d → need-of w j ≤ bit left j + bit left (prev (corners d) j) → Angle d j i
   faced-to j h l = facing-of d j i (need-of w j) left h (known j h .needs) marks l
 
-  faced-digit : (j : ℕ) → j < corners d → bit r j ≡ 1 → Facing d j i
+  faced-digit : (j : ℕ) → j < corners d → bit r j ≡ 1 → Angle d j i
   faced-digit j h e = go (faced-yes _ _ _ _ (bit-small (b .two) j) (bit-small (b .one) j) (sym (f .at j h) ∙ e))
     where
       go : ((bit (b .two) j ≡ 1) × (2 ≤ bit left j + bit left (prev (corners d) j))) ⊎
-          ((bit (b .one) j ≡ 1) × (1 ≤ bit left j + bit left (prev (corners d) j))) → Facing d j i
+          ((bit (b .one) j ≡ 1) × (1 ≤ bit left j + bit left (prev (corners d) j))) → Angle d j i
       go (inl x) = faced-to j h (omega (arith, two .yes j (x .0) .1, x .1))
       go (inr x) = faced-to j h (omega (arith, one .yes j (x .0) .1, x .1))
 
@@ -143,10 +135,10 @@ module _ (d : List ℤ) (i : ℕ) (w : List Known) {left r : ℕ} {b : Bends} (f
           (λ y. let off = f .off j (omega (arith, x, bit-small (b .two) j)) (omega (arith, y, bit-small (b .one) j)) in
           absurd (omega (arith, e, off))))
 
-      yes : (j : ℕ) → bit r j ≡ 1 → (j < corners d) × Facing d j i
+      yes : (j : ℕ) → bit r j ≡ 1 → (j < corners d) × Angle d j i
       yes j e = (within j e, faced-digit j (within j e) e)
 
-      no : (j : ℕ) → j < corners d → bit r j ≡ 0 → ¬ Facing d j i
+      no : (j : ℕ) → j < corners d → bit r j ≡ 0 → ¬ Angle d j i
       no j h e g = go (known j h .needs)
         where
           l : need-of w j ≤ bit left j + bit left (prev (corners d) j)
@@ -157,6 +149,5 @@ module _ (d : List ℤ) (i : ℕ) (w : List Known) {left r : ℕ} {b : Bends} (f
           none = faced-no _ _ _ _ (bit-small left j) (bit-small left (prev (corners d) j)) (sym (f .at j h) ∙ e)
 
           go : Needs d j (need-of w j) → ⊥
-          go (inl n) = g .0 (n .1)
-          go (inr (t, inl n)) = none .0 (marked two j h (n .0)) (omega (arith, l, n .0))
-          go (inr (t, inr n)) = none .1 (marked one j h (n .0)) (omega (arith, l, n .0))
+          go (inl n) = none .0 (marked two j h (n .0)) (omega (arith, l, n .0))
+          go (inr n) = none .1 (marked one j h (n .0)) (omega (arith, l, n .0))

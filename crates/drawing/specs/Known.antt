@@ -7,15 +7,16 @@ use mathlib.Core.List.{List}
 use Prim.Native.Nat.{ℕ, _^_, _<_, min, max}
 use lib.IntN.{ℤ, pos}
 use lib.ListN.{getD}
-use lib.Signed.{_≤ℤ_, _<ℤ_}
+use lib.Signed.{_<ℤ_}
 use Rattle.whole.specs.Bits.{bit}
 use Rattle.whole.specs.Masks.{Marks}
 use Rattle.outline.specs.Drawing.{corner, corners, after, prev, Turn, EndsAt, Angle, Shared}
-use Rattle.outline.specs.Segments.{Apart, Dot}
+use Rattle.outline.specs.Segments.{Apart}
 use Rattle.drawing.specs.Meeting.{Meets}
 use Rattle.drawing.specs.declared.faced.Bends.{Bends}
 use Rattle.drawing.specs.declared.masks.Known.{Known}
 use Rattle.drawing.specs.declared.segment.Met.{Met}
+use Rattle.drawing.specs.declared.segment.Met.the-variants as is
 
 module _ (d : List ℤ) where
   -- ---- corner i against side k
@@ -35,30 +36,13 @@ module _ (d : List ℤ) where
   abbrev pub Along : ℕ → ℕ → Type 0
   Along i k = OnLine i k × (¬ EndsAt d k i)
 
-  -- of a corner on its line: on the side itself
-  abbrev pub Within : ℕ → ℕ → Type 0
-  Within i k = Dot (corner d i) (corner d k) (corner d (after d k)) ≤ℤ pos 0
-
-  -- on a side that does not end there: that side and those that end at i share a point, so no simple drawing has such
-  -- a corner
-  pub record OnSide (i : ℕ) : Type 0 where
-    pub side : ℕ
-    pub below : side < corners d
-    pub along : Along i side
-    pub within : Within i side
-
   -- ---- the angle at corner i
   abbrev pub TurnsLeft : ℕ → Type 0
   TurnsLeft i = pos 0 <ℤ Turn (corner d (prev (corners d) i)) (corner d i) (corner d (after d i))
 
-  -- j is inside the angle at i; a corner on another side is not asked, since it sees its neighbours only
-  abbrev pub Facing : ℕ → ℕ → Type 0
-  Facing i j = (¬ OnSide i) × Angle d i j
-
-  -- of the two sides at i, how many j has to lie left of: 2 where i turns left and 1 where not; more, which is never,
-  -- where i is on another side
+  -- of the two sides at i, how many j has to lie left of to be inside: 2 where i turns left and 1 where not
   abbrev pub Needs : ℕ → ℕ → Type 0
-  Needs i v = ((2 < v) × OnSide i) ⊎ ((¬ OnSide i) × (((v ≡ 2) × TurnsLeft i) ⊎ ((v ≡ 1) × (¬ TurnsLeft i))))
+  Needs i v = ((v ≡ 2) × TurnsLeft i) ⊎ ((v ≡ 1) × (¬ TurnsLeft i))
 
   -- side k has an end strictly lower than corner i, or strictly west of it
   abbrev pub Low : ℕ → ℕ → Type 0
@@ -76,9 +60,6 @@ module _ (d : List ℤ) where
   abbrev pub Hides : ℕ → ℕ → ℕ → Type 0
   Hides i j k = Shared (corner d i) (corner d j) (corner d k) (corner d (after d k))
 
-  abbrev pub NoneHides : ℕ → ℕ → Type 0
-  NoneHides i j = (k : ℕ) → k < corners d → Open i j k → ¬ Hides i j k
-
   -- the sides that m marks are open, and every open side that hides is among them
   pub record Looks (i j m : ℕ) : Type 0 where
     pub is-open : (k : ℕ) → bit m k ≡ 1 → (k < corners d) × Open i j k
@@ -87,6 +68,12 @@ module _ (d : List ℤ) where
   -- how ij meets side k
   abbrev pub MeetsSide : ℕ → ℕ → ℕ → Met → Type 0
   MeetsSide i j k w = Meets (corner d i) (corner d j) (corner d k) (corner d (after d k)) w
+
+  -- an open side that ij touches
+  pub record TouchedSide (i j k : ℕ) : Type 0 where
+    pub differ : ¬ (corner d i ≡ corner d j)
+    pub is-open : Open i j k
+    pub touches : MeetsSide i j k is.Touched
 
 -- of two corners on one axis: the marks of either are marks of m, and every side is one, where neither is further
 abbrev pub Reaches : ℤ → ℕ → ℤ → ℕ → ℕ → Type 0
@@ -120,7 +107,7 @@ AllKnown d t w = (i : ℕ) → i < t → Knows d i (known-of w i)
 -- ---- masks with a digit for each corner
 -- the corners that have corner i inside the angle
 abbrev pub FacedBy : List ℤ → ℕ → ℕ → Type 0
-FacedBy d i f = Marks (corners d) f (λ j. Facing d j i)
+FacedBy d i f = Marks (corners d) f (λ j. Angle d j i)
 
 -- a mask of n digits turned by one: digit k is the digit of the corner before k
 abbrev pub Around : ℕ → ℕ → ℕ → Type 0

@@ -1,12 +1,15 @@
 // The drawing: whether a list of coordinates is a sound drawing, and which of its corners see each other
 // (document 01). Everything that works on coordinates is in this crate; others learn of a drawing only its judgement
 // and its sight.
+ghost use Rattle.outline.specs.Drawing.{Sound};
 ghost use Rattle.drawing.specs.Judgement.{Judgement};
-ghost use Rattle.drawing.specs.Sight.{Sight};
+ghost use Rattle.drawing.specs.Sight.{Told, Sight};
 
+mod beginnings;
 mod corners;
 mod faced;
 mod masks;
+mod parting;
 mod seeing;
 mod segment;
 mod simple;
@@ -43,20 +46,31 @@ pub fn judge(xy: &[i32]) -> Judged
     Judged::Sound
 }
 
-// Who sees whom: cell i * 64 + j is 1 where corner i sees corner j and 0 where not, and every other cell keeps its
-// value. False, and nothing written, where `xy` is no drawing within 01's limits or `cells` has no room for 64 rows.
-pub fn sight(xy: &[i32], cells: &mut [u8]) -> bool
+// The judgement of `xy`, and where it is sound who sees whom: cell i * 64 + j is 1 where corner i sees corner j by 01's
+// rule, and 2 more where it sees it as a centre (02, K3). Every other cell keeps its value. Of a drawing that is not
+// sound nothing is told, nor where `cells` has no room for 64 rows.
+pub fn sight(xy: &[i32], cells: &mut [u8]) -> Judged
     ensures { λ r. ⌜ Sight (now (xy .entry)) (now (cells .entry)) (now (cells .exit)) r ⌝ }
 {
+    match judge(xy) {
+        Judged::Misshapen => Judged::Misshapen,
+        Judged::OutOfRange => Judged::OutOfRange,
+        Judged::NotSimple => Judged::NotSimple,
+        Judged::NotAnticlockwise => Judged::NotAnticlockwise,
+        Judged::Sound => {
+            tell(xy, cells);
+            Judged::Sound
+        }
+    }
+}
+
+// Where there is room.
+fn tell(xy: &[i32], cells: &mut [u8])
+    requires { ⌜ Sound (now xy) ⌝ }
+    ensures { λ _. ⌜ Told (now (xy .entry)) (now (cells .entry)) (now (cells .exit)) ⌝ }
+{
     if cells.len() < ALL_CELLS {
-        return false;
-    }
-    if !corners::shaped(xy) {
-        return false;
-    }
-    if !corners::in_range(xy) {
-        return false;
+        return;
     }
     table::fill(xy, cells);
-    true
 }

@@ -2,17 +2,14 @@
 // the n corners; whatever a pair of corners asks of the sides is then a few operations on what the two know.
 ghost use mathlib.Core.Path.{_≡_};
 ghost use Prim.Native.Nat.{_<_};
-ghost use Rattle.whole.specs.Masks.{Marks};
 ghost use Rattle.outline.specs.Drawing.{corners};
-ghost use Rattle.drawing.specs.Sight.{Limits};
-ghost use Rattle.outline.specs.Tells.{Tells};
-ghost use Rattle.drawing.specs.Known.{Along, Within, OnSide, Needs, Knows, AllKnown};
+ghost use Rattle.drawing.specs.Parts.{Limits};
+ghost use Rattle.drawing.specs.Known.{Needs, Knows, AllKnown};
 ghost use Rattle.drawing.specs.Away.{Far, Away, Cross};
 use crate::corners::corner;
 use crate::corners::next;
 use crate::corners::prev;
 use crate::segment::Place;
-use crate::segment::dot;
 use crate::segment::turn;
 use limits::MOST_CORNERS;
 
@@ -77,7 +74,7 @@ fn know(xy: &[i32], i: usize) -> Known
     let before = 1 << h;
     let after = 1 << i;
     let along = flat ^ before ^ after;
-    let need = need(xy, along, i);
+    let need = need(xy, i);
     Known {
         left: left,
         right: all ^ left ^ flat,
@@ -109,47 +106,15 @@ fn cross(c: Place, d: Place) -> i64
     c.x * d.y - c.y * d.x
 }
 
-// 2 where corner i turns left, and 1 where not; 3, which is never reached, where it is on another side: it sees its
-// neighbours only.
-fn need(xy: &[i32], along: u64, i: usize) -> u64
-    requires { ⌜ Limits (now xy) × (i < corners (now xy)) × Marks (corners (now xy)) along (Along (now xy) i) ⌝ }
+// 2 where corner i turns left, and 1 where not.
+fn need(xy: &[i32], i: usize) -> u64
+    requires { ⌜ Limits (now xy) × (i < corners (now xy)) ⌝ }
     ensures { λ r. ⌜ Needs (now (xy .entry)) i r ⌝ }
 {
-    if on_side(xy, along, i) {
-        return 3;
-    }
     let h = prev(xy, i);
     let m = next(xy, i);
     let p = corner(xy, h);
     let a = corner(xy, i);
     let q = corner(xy, m);
     if turn(p, a, q) > 0 { 2 } else { 1 }
-}
-
-// From one mark to the next.
-fn on_side(xy: &[i32], along: u64, i: usize) -> bool
-    requires { ⌜ Limits (now xy) × (i < corners (now xy)) × Marks (corners (now xy)) along (Along (now xy) i) ⌝ }
-    ensures { λ r. ⌜ Tells r (OnSide (now (xy .entry)) i) ⌝ }
-{
-    let mut rest = along;
-    while rest != 0 {
-        let k = u64::trailing_zeros(rest) as usize;
-        if within(xy, i, k) {
-            return true;
-        }
-        rest = rest & (rest - 1);
-    }
-    false
-}
-
-// Of corner i on the line of side k: it is on the side.
-fn within(xy: &[i32], i: usize, k: usize) -> bool
-    requires { ⌜ Limits (now xy) × (i < corners (now xy)) × (k < corners (now xy)) ⌝ }
-    ensures { λ r. ⌜ Tells r (Within (now (xy .entry)) i k) ⌝ }
-{
-    let m = next(xy, k);
-    let a = corner(xy, i);
-    let c = corner(xy, k);
-    let d = corner(xy, m);
-    dot(a, c, d) <= 0
 }

@@ -54,3 +54,5 @@ pub mod Kinds
 pub mod Outside
 pub mod Affine
 pub mod Moves
+pub mod Begins
+pub mod Third

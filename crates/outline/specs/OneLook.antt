@@ -244,7 +244,7 @@ module _ (d : List ℤ) (simple : Simple d) (i j : ℕ) (hi : i < corners d) (hj
       go (inr (inr x)) = free k hk .uncrossed (record { ends = x; meets = s })
 
 -- ---- a side from the end e of the segment e o to the corner m: on one line they point away from each other
-away : (e o m : Point) → ¬ (e ≡ o) → ¬ (e ≡ m) → ¬ On m e o → ¬ On o e m → OnlyEnd e o m
+pub away : (e o m : Point) → ¬ (e ≡ o) → ¬ (e ≡ m) → ¬ On m e o → ¬ On o e m → OnlyEnd e o m
 away e o m eo em mo om t = go (≤ℤ-total (Dot e o m) (pos 0))
   where
     ρ′ : List ℤ

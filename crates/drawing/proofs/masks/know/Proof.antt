@@ -203,7 +203,7 @@ along c =
     (along-marks (s .args .xy .now) (s .args .i) (s .pre .1) (omega (arith, s .pre .0 .shaped .enough)) (flat c))
 
 need-requires : tie.Need-need-requires Inv-loop μ-loop
-need-requires c κs = let h = c .before .before .before .before .pre in (h .0, h .1, along c)
+need-requires c κs = let h = c .before .before .before .before .pre in (h .0, h .1)
 
 returns : tie.Need-returns Inv-loop μ-loop
 returns c =

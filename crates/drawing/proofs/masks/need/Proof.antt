@@ -1,22 +1,13 @@
 -- `drawing::masks::need` meets its contract.
 use mathlib.Core.Path.{_≡_, refl, ap, _∙_}
 use mathlib.Core.Logic.{inl, inr}
-use native.Mathlib.Omega.{arith}
 use lib.Signed.{clashℤ}
 use Rattle.whole.specs.Bounds.{lt-yes, lt-no}
 use Rattle.outline.specs.Drawing.{corner, corners, prev, after, Turn}
-use Rattle.drawing.specs.Known.{OnSide}
-use Rattle.outline.specs.Tells.{if-yes, if-no}
 use Rattle.drawing.proofs.Machine.{back, held, turn-same}
 use borrow.Author.Needs.{needs}
 use Rattle.drawing.proofs.masks.need.Statement.{statement}
 use Rattle.drawing.proofs.masks.need.Tie as tie
-
-on-side-requires : tie.Need-on-side-requires
-on-side-requires c κs = search needs
-
-returns : tie.Need-returns
-returns c = inl (omega arith, if-yes (c .before .on-side .ensures) (c .if1 .taken))
 
 prev-requires : tie.Need-prev-requires
 prev-requires c κs = search needs
@@ -38,39 +29,31 @@ turn-requires c κs = search needs
 
 -- the turn at corner i
 bend : (c : tie.After-turn) →
-    let s = c .before .before .before .before .before .before .before .before .args in
+    let s = c .before .before .before .before .before .before .args in
     let d = s .xy .now in
     back (c .turn .result) ≡ Turn (corner d (prev (corners d) (s .i))) (corner d (s .i)) (corner d (after d (s .i)))
 bend c =
     let s = c .before .before .before .before .before in
-    let d = s .before .before .before .args .xy .now in
+    let d = s .before .args .xy .now in
     let p = c .before .before .before .corner .ensures .is ∙ ap (corner d) (s .prev .ensures .is) in
     let q = c .before .corner3 .ensures .is ∙ ap (corner d) (c .before .before .before .before .next .ensures .is) in
     held (c .turn .ok) (c .turn .ensures ∙ turn-same p (c .before .before .corner2 .ensures .is) q)
 
-free : (c : tie.After-turn) →
-    let s = c .before .before .before .before .before .before .before .before .args in
-    ¬ OnSide (s .xy .now) (s .i)
-free c =
-    let k = c .before .before .before .before .before .before in if-no (k .before .on-side .ensures) (k .if1 .left)
+returns : tie.Need-returns
+returns c = inl (refl, lt-yes refl (bend (c .before)) (c .if1 .taken))
 
 returns-2 : tie.Need-returns-2
-returns-2 c = inr (free (c .before), inl (refl, lt-yes refl (bend (c .before)) (c .if2 .taken)))
-
-returns-3 : tie.Need-returns-3
-returns-3 c = inr (free (c .before), inr (refl, λ h. clashℤ h (lt-no refl (bend (c .before)) (c .if2 .left))))
+returns-2 c = inr (refl, λ h. clashℤ h (lt-no refl (bend (c .before)) (c .if1 .left)))
 
 pub need-spec : {M : Type 1} → statement M
 need-spec =
     tie.close
     (tie.spec
-    on-side-requires
-    returns
     prev-requires
     next-requires
     corner-requires
     corner-requires-2
     corner-requires-3
     turn-requires
-    returns-2
-    returns-3)
+    returns
+    returns-2)

@@ -2,7 +2,7 @@
 use Prim.Native.Nat.{_≤_, _-_}
 use mathlib.Core.Path.{_≡_}
 use native.Mathlib.Omega.{arith}
-use Rattle.drawing.specs.Parts.{RowBlank}
+use Rattle.drawing.specs.Table.{RowBlank}
 use Rattle.drawing.proofs.Blank.{blank-none, blank-more}
 use Rattle.drawing.proofs.table.blank_row.Statement.{statement}
 use Rattle.drawing.proofs.table.blank_row.Tie as tie

@@ -5,7 +5,7 @@ use native.Mathlib.Omega.{arith}
 use lib.ListN.{length}
 use Rattle.limits.specs.Limits.{all-cells}
 use Rattle.outline.specs.Drawing.{corners}
-use Rattle.drawing.specs.Parts.{None, Grows}
+use Rattle.drawing.specs.Table.{None, Grows}
 use Rattle.drawing.proofs.Growing.{grows-on}
 use Rattle.drawing.proofs.Neighbours.{NextDone, next-none, next-more, next-all}
 use Rattle.drawing.proofs.table.neighbours.Statement.{statement}
