@@ -2,3 +2,5 @@
 pub mod Pair
 -- ---- what callers use: a judgement as a number, a pair that passes
 pub mod Passing
+-- ---- no second number, and no second buffer
+pub mod Unique

@@ -7,10 +7,11 @@ use lib.IntN.{ℤ, pos}
 use lib.ListN.{length}
 use lib.Signed.{_<ℤ_}
 use Rattle.limits.specs.Limits.{fewest-corners, most-corners}
-use Rattle.outline.specs.Drawing.{corners, InRange, Simple, doubled-area}
+use Rattle.outline.specs.Drawing.{corners, InRange, Simple, Sound, doubled-area}
 use Rattle.drawing.specs.Judgement.{first-number, second-number}
+use Rattle.drawing.specs.Sight.{Told}
 use Rattle.drawing.specs.declared.Judged.{Judged}
-use Rattle.rules.specs.Refusals.{Line, line, FirstFailed, failed-unique}
+use Rattle.rules.specs.Refusals.{Line, line, FirstFailed}
 use Rattle.pair.specs.declared.Which.{Which}
 use Rattle.pair.specs.declared.Which.the-variants.{First, Second}
 
@@ -41,10 +42,16 @@ abbrev pub number-of : Which → Judged → ℕ
 number-of First = first-number
 number-of Second = second-number
 
--- ---- what `check` promises: the number of the first of these lines that fails, or 0
+-- ---- what `sight` promises: the number of the first of these lines that fails, or 0
 pub record Checks (first second : List ℤ) (number : ℕ) : Type 0 where
   pub numbered : FirstFailed (lines first second) number
 
--- no second number
-pub check-unique : (first second : List ℤ) (k k′ : ℕ) → Checks first second k → Checks first second k′ → k ≡ k′
-check-unique first second k k′ h h′ = failed-unique (lines first second) k k′ (h .numbered) (h′ .numbered)
+-- where line 1 does not apply and the first drawing is sound, its sight is told; else its cells keep their values
+pub record FirstTold (first second : List ℤ) (before after : List ℕ) : Type 0 where
+  pub told : Alike first second → Sound first → Told first before after
+  pub kept : ¬ (Alike first second × Sound first) → after ≡ before
+
+-- where no line applies, that of the second is told; else its cells keep their values
+pub record SecondTold (second : List ℤ) (number : ℕ) (before after : List ℕ) : Type 0 where
+  pub told : number ≡ 0 → Told second before after
+  pub kept : ¬ (number ≡ 0) → after ≡ before

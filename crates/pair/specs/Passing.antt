@@ -1,6 +1,6 @@
 -- The judgements of two drawings as numbers of the table, and what it says of a pair that its lines are passed.
 use mathlib.Core.Path.{_≡_, refl}
-use mathlib.Core.Logic.{inl, inr}
+use mathlib.Core.Logic.{_⊎_, inl, inr}
 use mathlib.Core.List.{List}
 use Prim.Native.Nat.{ℕ}
 use native.Mathlib.Omega.{arith}
@@ -61,3 +61,16 @@ sound-pair first second h =
 
 pub pair-passes : (first second : List ℤ) → Checks first second 0 → SoundPair first second
 pair-passes first second h = sound-pair first second (all-hold (lines first second) (omega arith) (h .numbered))
+
+-- ---- the number tells whether the first drawing's lines are passed
+pub first-passes : (first second : List ℤ) (k : ℕ) → Checks first second k →
+    (Alike first second × Sound first) ⊎ (¬ (Alike first second × Sound first))
+first-passes first second k h = go (h .numbered)
+  where
+    go : FirstFailed (lines first second) k → (Alike first second × Sound first) ⊎ (¬ (Alike first second × Sound first))
+    go (inl f) = inr (λ p. f .0 (p .0))
+    go (inr (a, inl f)) = inr (λ p. f .0 (p .1 .in-range))
+    go (inr (a, inr (r, inl f))) = inr (λ p. f .0 (p .1 .simple))
+    go (inr (a, inr (r, inr (s, inl f)))) = inr (λ p. f .0 (p .1 .anticlockwise))
+    go (inr (a, inr (r, inr (s, inr (c, f))))) =
+        inl (a, record { shaped = first-shaped a; in-range = r; simple = s; anticlockwise = c })

@@ -1,10 +1,10 @@
-// The checks of a pair of drawings: lines 1 and 3 to 8 of 01's table ("What comes back"), in one call. What else is
-// asked of a pair, and where in the order, is the caller's.
+// The checks of a pair of drawings: lines 1 and 3 to 8 of 01's table ("What comes back"), in one call, with the sight of
+// both. What else is asked of a pair, and where in the order, is the caller's.
 ghost use mathlib.Core.Path.{_≡_};
 ghost use Prim.Native.Nat.{_≤_};
 ghost use Rattle.drawing.specs.Judgement.{number-from};
 ghost use Rattle.outline.specs.Tells.{Tells};
-ghost use Rattle.pair.specs.Pair.{Alike, Checks, number-of};
+ghost use Rattle.pair.specs.Pair.{Alike, Checks, FirstTold, SecondTold, number-of};
 use limits::FEWEST_CORNERS;
 use limits::MOST_CORNERS;
 
@@ -57,15 +57,20 @@ pub fn number(which: Which, judged: drawing::Judged) -> u8
 }
 
 // The number of the first of these lines that applies; 0 where both drawings are sound and have equally many corners.
-pub fn check(first: &[i32], second: &[i32]) -> u8
+// Each drawing is judged once, and where it is sound its sight is told on the way: that of the first drawing where line
+// 1 does not apply, that of the second with number 0. Cells of which nothing is told keep their values.
+pub fn sight(first: &[i32], second: &[i32], cells1: &mut [u8], cells2: &mut [u8]) -> u8
     ensures { λ r. ⌜ Checks (now (first .entry)) (now (second .entry)) r ⌝ }
+    ensures { λ _. ⌜
+        FirstTold (now (first .entry)) (now (second .entry)) (now (cells1 .entry)) (now (cells1 .exit)) ⌝ }
+    ensures { λ r. ⌜ SecondTold (now (second .entry)) r (now (cells2 .entry)) (now (cells2 .exit)) ⌝ }
 {
     if !alike(first, second) {
         return 1;
     }
-    let failed = number(Which::First, drawing::judge(first));
+    let failed = number(Which::First, drawing::sight(first, cells1));
     if failed != 0 {
         return failed;
     }
-    number(Which::Second, drawing::judge(second))
+    number(Which::Second, drawing::sight(second, cells2))
 }
