@@ -28,10 +28,14 @@ use Rattle.cutting.proofs.Finds.{refuses}
 -- ---- the readings
 module _ {first second cuts veil : List ℕ} {n : ℕ} (read : Read first second cuts veil n n) where
   same-sight : (x y : ℕ) → x < n → y < n → Sees (cell veil) x y ↔ InBoth first second x y
-  same-sight x y p q = let b = read .at x y p q in (b .lifted, b .clear)
+  same-sight x y p q =
+      let e = read .lane x y p q in
+      ((λ z. (omega arith, omega arith)), λ s. omega (arith, s .0, s .1))
 
   same-cuts : (a b : ℕ) → Inner n a b → Cut cuts a b ↔ MayCut first second a b
-  same-cuts a b i = let z = read .at a b (omega (arith, i .rises, i .small)) (i .small) in (z .uncut, z .cut)
+  same-cuts a b i =
+      let e = read .cut a b (omega (arith, i .rises, i .small)) (i .small) in
+      ((λ c. (omega arith, omega arith)), λ s z. omega (arith, s .0, s .1))
 
   pub finished : {val left right before : List ℕ} → Served n first second before →
       Filled cuts veil val left right n n →
