@@ -89,10 +89,10 @@ fn frame(n: usize, first: &[u8], second: &[u8], pairs: &mut [u8]) -> Searched
 }
 
 // The first smallest cutting of n corners. Cell x * 64 + y of `first` and of `second` tells two kinds of sight in that
-// drawing: 1 says that x sees y by the strict rule, for a cut, and 2 that x, as a centre, sees y. No other binary digit
-// of it counts. Where there is a cutting, cell a * 64 + b of `pairs` becomes 1 where a < b is a cut of the first
-// smallest, and every other cell of the 4,096 becomes 0; those beyond stay. What is not served leaves `pairs` alone: n
-// outside 3 to 64, arrays under 4,096 cells. So does a search without a find.
+// drawing: 1 says that x sees y by the strict rule, for a cut, and 2 that x, as a centre, sees y; no other of its
+// binary digits counts. Where there is a cutting, cell a * 64 + b of `pairs` becomes 1 where a < b is a cut of the
+// first smallest, and every other cell of the 4,096 becomes 0; those beyond stay. What is not served leaves `pairs`
+// alone: n outside 3 to 64, arrays under 4,096 cells. So does a search without a find.
 pub fn search(n: usize, first: &[u8], second: &[u8], pairs: &mut [u8]) -> Searched
     ensures { λ r. ⌜
         Searches n (now (first .entry)) (now (second .entry)) (now (pairs .entry)) (now (pairs .exit)) r ⌝ }
