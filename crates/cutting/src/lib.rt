@@ -21,9 +21,11 @@ use lines::solve;
 use reading::read;
 use tracing::trace;
 ghost use mathlib.Core.Path.{_≡_};
+ghost use Prim.Native.Nat.{_≤_};
 ghost use lib.ListN.{length};
-ghost use Rattle.limits.specs.Limits.{all-cells};
+ghost use Rattle.limits.specs.Limits.{fewest-corners, row, all-cells};
 ghost use Rattle.cutting.specs.Rows.{Veil};
+ghost use Rattle.cutting.specs.Tracing.{Finds};
 ghost use Rattle.cutting.specs.Answer.{Served, Searches};
 
 // What came of it; `number` of `specs/Answer` has 01's number for each case, and `Searches` what it promises.
@@ -33,36 +35,60 @@ pub enum Searched {
     Found,
 }
 
-// The readings, the tables, the set.
+// The tables are filled by the readings, and the set is traced from them, where there is one: the value of the whole
+// range says so.
 fn work(
     n: usize,
-    first: &[u8],
-    second: &[u8],
-    cuts: &mut [u8],
-    veil: &mut [u8],
+    cuts: &[u8],
+    veil: &[u8],
     val: &mut [u8],
     left: &mut [u8],
     right: &mut [u8],
     col: &mut [u8],
     pairs: &mut [u8],
-) -> Searched
-    requires { ⌜ Served n (now first) (now second) (now pairs) × (length (now pairs) ≡ all-cells) ⌝ }
+) -> bool
     requires { ⌜
-        (length (now cuts) ≡ all-cells) × Veil (now veil) × (length (now val) ≡ all-cells) ×
-        (length (now left) ≡ all-cells) × (length (now right) ≡ all-cells) × (length (now col) ≡ all-cells) ⌝ }
+        (fewest-corners ≤ n) × (n ≤ row) × (all-cells ≤ length (now cuts)) × Veil (now veil) ×
+        (length (now pairs) ≡ all-cells) ⌝ }
+    requires { ⌜
+        (length (now val) ≡ all-cells) × (length (now left) ≡ all-cells) × (length (now right) ≡ all-cells) ×
+        (length (now col) ≡ all-cells) ⌝ }
     ensures { λ r. ⌜
-        Searches n (now (first .entry)) (now (second .entry)) (now (pairs .entry)) (now (pairs .exit)) r ⌝ }
+        Finds (now (cuts .entry)) (now (veil .entry)) n (now (pairs .entry)) (now (pairs .exit)) r ⌝ }
 {
-    read(first, second, cuts, veil, n);
     solve(cuts, veil, val, left, right, col, n);
     if cell(val, 0, n - 1) == NONE {
-        return Searched::NoCutting;
+        return false;
     }
     trace(veil, val, left, right, col, n, pairs);
-    Searched::Found
+    true
 }
 
 // The tables stand in this frame, and no loop beside them.
+fn find(n: usize, cuts: &[u8], veil: &[u8], pairs: &mut [u8]) -> bool
+    requires { ⌜
+        (fewest-corners ≤ n) × (n ≤ row) × (all-cells ≤ length (now cuts)) × Veil (now veil) ×
+        (length (now pairs) ≡ all-cells) ⌝ }
+    ensures { λ r. ⌜
+        Finds (now (cuts .entry)) (now (veil .entry)) n (now (pairs .entry)) (now (pairs .exit)) r ⌝ }
+{
+    let mut val = [0u8; ALL_CELLS];
+    let mut left = [0u8; ALL_CELLS];
+    let mut right = [0u8; ALL_CELLS];
+    let mut col = [0u8; ALL_CELLS];
+    work(
+        n,
+        cuts,
+        veil,
+        &mut val,
+        &mut left,
+        &mut right,
+        &mut col,
+        pairs,
+    )
+}
+
+// The readings stand in this one: behind it nobody looks at the caller's cells.
 fn frame(n: usize, first: &[u8], second: &[u8], pairs: &mut [u8]) -> Searched
     requires { ⌜ Served n (now first) (now second) (now pairs) × (length (now pairs) ≡ all-cells) ⌝ }
     ensures { λ r. ⌜
@@ -70,22 +96,11 @@ fn frame(n: usize, first: &[u8], second: &[u8], pairs: &mut [u8]) -> Searched
 {
     let mut cuts = [0u8; ALL_CELLS];
     let mut veil = [0u8; ALL_CELLS];
-    let mut val = [0u8; ALL_CELLS];
-    let mut left = [0u8; ALL_CELLS];
-    let mut right = [0u8; ALL_CELLS];
-    let mut col = [0u8; ALL_CELLS];
-    work(
-        n,
-        first,
-        second,
-        &mut cuts,
-        &mut veil,
-        &mut val,
-        &mut left,
-        &mut right,
-        &mut col,
-        pairs,
-    )
+    read(first, second, &mut cuts, &mut veil, n);
+    if find(n, &cuts, &veil, pairs) {
+        return Searched::Found;
+    }
+    Searched::NoCutting
 }
 
 // The first smallest cutting of n corners. Cell x * 64 + y of `first` and of `second` tells two kinds of sight in that
