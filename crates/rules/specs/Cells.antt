@@ -172,3 +172,23 @@ hexagon = set (set (replicate (6 * row) 0) (place 0 2) 1) (place 2 5) 1
 hexagon-pieces : pieces 6 (marked hexagon) ≡ (0 ∷ 2 ∷ 5 ∷ []) ∷ (0 ∷ 1 ∷ 2 ∷ []) ∷ (2 ∷ 3 ∷ 4 ∷ 5 ∷ []) ∷ []
 unfolding pieces marked hexagon
 hexagon-pieces = refl
+
+-- ---- tried: the cells above, as the row of corner 0
+kinds : List ℕ
+kinds = 0 ∷ 1 ∷ 2 ∷ 3 ∷ 4 ∷ 5 ∷ 255 ∷ []
+
+one-for-a-cut : StrictlySees kinds 0 1 × ¬ CentreSees kinds 0 1
+unfolding kinds
+one-for-a-cut = (refl, λ e. omega (arith, e))
+
+two-for-a-centre : ¬ StrictlySees kinds 0 2 × CentreSees kinds 0 2
+unfolding kinds
+two-for-a-centre = (λ e. omega (arith, e), refl)
+
+neither-by-four : ¬ StrictlySees kinds 0 4 × ¬ CentreSees kinds 0 4
+unfolding kinds
+neither-by-four = (λ e. omega (arith, e), λ e. omega (arith, e))
+
+both-by-255 : StrictlySees kinds 0 6 × CentreSees kinds 0 6
+unfolding kinds
+both-by-255 = (refl, refl)
