@@ -20,46 +20,38 @@ use Rattle.rules.specs.Ways.{Sees}
 use Rattle.cutting.specs.declared.Searched.{Searched}
 use Rattle.cutting.specs.declared.Searched.the-variants.{Unserved, NoCutting, Found}
 use Rattle.cutting.specs.Answer.{MayCut, plan, Served, asked, bit, Marks, number, Searches}
-use Rattle.cutting.specs.Rows.{none, Cut, Veil, Read, Filled}
-use Rattle.cutting.specs.Tracing.{Ticks, Solves, Drawn}
+use Rattle.cutting.specs.Rows.{Cut, Read}
+use Rattle.cutting.specs.Tracing.{Drawn, Finds}
 use Rattle.cutting.proofs.Marking.{marked-says, ticks-marked}
-use Rattle.cutting.proofs.Finds.{refuses}
 
 -- ---- the readings
 module _ {first second cuts veil : List ℕ} {n : ℕ} (read : Read first second cuts veil n n) where
   same-sight : (x y : ℕ) → x < n → y < n → Sees (cell veil) x y ↔ InBoth first second x y
-  same-sight x y p q = let b = read .at x y p q in (b .lifted, b .clear)
+  same-sight x y p q =
+      let e = read .lane x y p q in
+      ((λ z. (omega arith, omega arith)), λ s. omega (arith, s .0, s .1))
 
   same-cuts : (a b : ℕ) → Inner n a b → Cut cuts a b ↔ MayCut first second a b
-  same-cuts a b i = let z = read .at a b (omega (arith, i .rises, i .small)) (i .small) in (z .uncut, z .cut)
-
-  pub finished : {val left right before : List ℕ} → Served n first second before →
-      Filled cuts veil val left right n n →
-      ¬ (cell val 0 (n - 1) ≡ none) → Solves cuts veil val left right n
-  finished s f h = record { three = s .fewest; small = s .most; filled = f; has = h }
+  same-cuts a b i =
+      let e = read .cut a b (omega (arith, i .rises, i .small)) (i .small) in
+      ((λ c. (omega arith, omega arith)), λ s z. omega (arith, s .0, s .1))
 
   agree : Agree n (stars (Cut cuts) (Sees (cell veil))) (plan first second)
   agree = stars-agree same-cuts same-sight
 
   -- ---- the three ends
-  pub searches-none : {val left right before : List ℕ} → Served n first second before →
-      Filled cuts veil val left right n n → cell val 0 (n - 1) ≡ none → Searches n first second before before NoCutting
+  pub searches-none : {before after : List ℕ} {r : Bool} → Served n first second before →
+      Finds cuts veil n before after r → r ≡ false → Searches n first second before after NoCutting
   searches-none s f e = record {
-    numbered =
-        inr (
-          s,
-          inl (
-            (λ c. refuses (read .veils) (s .fewest) (s .most) f e (c .0) (valid-same agree (c .0) .1 (c .1))),
-            refl,
-          ),
-        );
-    kept = λ lt. refl;
+    numbered = inr (s, inl ((λ c. f .no-set e (c .0) (valid-same agree (c .0) .1 (c .1))), refl));
+    kept = λ lt. f .kept e;
     found = λ z. absurd (omega (arith, z));
   }
 
-  pub searches-found : {before after : List ℕ} → Served n first second before → length before ≡ all-cells →
-      Drawn cuts veil n after → Searches n first second before after Found
-  searches-found {before} {after} s size d =
+  pub searches-found : {before after : List ℕ} {r : Bool} → Served n first second before →
+      length before ≡ all-cells → Finds cuts veil n before after r → r ≡ true →
+      Searches n first second before after Found
+  searches-found {before} {after} s size h e =
       let f = first-same agree (marked after) (d .first) in
       record {
         numbered = inr (s, inr ((marked after, f .valid), refl));
@@ -72,6 +64,9 @@ module _ {first second cuts veil : List ℕ} {n : ℕ} (read : Read first second
         };
       }
     where
+      d : Drawn cuts veil n after
+      d = h .some e
+
       past : (k : ℕ) → all-cells ≤ k → (l : List ℕ) → length l ≡ all-cells → getD l k 0 ≡ 0
       past k h l e = List·getD-eq-default l 0 {n = k} (omega arith)
 

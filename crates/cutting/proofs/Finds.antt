@@ -1,6 +1,7 @@
 -- From filled tables to the set: they are finished tables of `rules`; where the whole range has no value no cutting is
 -- valid; else the set that was traced, without the whole range, is the first smallest cutting.
 use mathlib.Core.Path.{_≡_, refl, sym, ap, subst, _∙_}
+use mathlib.Core.Bool.{true, false}
 use mathlib.Core.Logic.{_⊎_, inl, inr, ⊎-elim}
 use mathlib.Core.List.{List}
 use Prim.Native.Nat.{ℕ, zero, suc, _+_, _-_, _*_, _<_, _≤_}
@@ -23,7 +24,8 @@ use Rattle.rules.specs.Ways.{Sees}
 use Rattle.rules.specs.Picks.{table}
 use Rattle.rules.specs.Trace.{traced-first}
 use Rattle.cutting.specs.Rows.{none, Cut, Veil, Lines, Rights, Filled}
-use Rattle.cutting.specs.Tracing.{Ticks, Started, Tracing, Solves, Drawn}
+use Rattle.cutting.specs.Tracing.{Ticks, Started, Tracing, Solves, Drawn, Finds}
+use Rattle.cutting.proofs.Values.{clash}
 use Rattle.cutting.proofs.Marking.{marked-says, same-marked, ticks-set}
 use Rattle.cutting.proofs.Traced.{traced-seen}
 
@@ -191,10 +193,24 @@ pub traceable : {cuts veil val left right pairs : List ℕ} {n : ℕ} → Veil v
 traceable {n} v s p =
     tracing-start (n - 1) (omega (arith, s .three)) (omega (arith, s .three)) (s .small) v (s .filled) (s .has) p
 
-pub refuses : {cuts veil val left right : List ℕ} {n : ℕ} → Veil veil → 3 ≤ n → n ≤ row →
+refuses : {cuts veil val left right : List ℕ} {n : ℕ} → Veil veil → 3 ≤ n → n ≤ row →
     Filled cuts veil val left right n n → cell val 0 (n - 1) ≡ none → (C : Pairs) →
     ¬ Valid (Cut cuts) (HasCentre (Sees (cell veil))) n C
 refuses {cuts} {veil} {n} v three most f e C va =
     let k : n ≡ suc (n - 1) = omega arith in
     none-valid (n - 1) (omega arith) k most v f e C
     (subst (λ (z : ℕ). Valid (Cut cuts) (HasCentre (Sees (cell veil))) z C) k va)
+
+-- ---- the two ends of a search by the readings
+module _ {cuts veil val left right : List ℕ} {n : ℕ} (three : 3 ≤ n) (most : n ≤ row)
+    (filled : Filled cuts veil val left right n n) where
+  pub finished : ¬ (cell val 0 (n - 1) ≡ none) → Solves cuts veil val left right n
+  finished h = record { three = three; small = most; filled = filled; has = h }
+
+  pub finds-none : {before : List ℕ} → Veil veil → cell val 0 (n - 1) ≡ none → Finds cuts veil n before before false
+  finds-none v e =
+      record { some = λ z. clash (sym z); no-set = λ z. refuses v three most filled e; kept = λ z. refl }
+
+pub finds-some : {cuts veil before after : List ℕ} {n : ℕ} → Drawn cuts veil n after →
+    Finds cuts veil n before after true
+finds-some d = record { some = λ z. d; no-set = λ z. clash z; kept = λ z. clash z }

@@ -1,6 +1,5 @@
 -- Laws of the two readings as they are made.
 use mathlib.Core.Path.{_≡_, refl, sym, ap, subst, _∙_}
-use mathlib.Core.Bool.{Bool, true, false}
 use mathlib.Core.List.{List}
 use Prim.Native.Nat.{ℕ, zero, suc, _+_, _*_, _<_, _≤_}
 use native.Mathlib.Omega.{arith}
@@ -9,40 +8,8 @@ use borrow.Author.Count.{below-more}
 use lib.ListN.{length, getD, set, replicate, length-set, length-replicate}
 use lib.Seq.{getD-set-same, getD-set-other}
 use Rattle.limits.specs.Limits.{row, all-cells, place}
-use Rattle.rules.specs.Cells.{cell, Sees, InBoth}
-use Rattle.cutting.specs.Tells.{Tells, surely, never}
-use Rattle.cutting.specs.Rows.{none, Veil, Both, Read}
-
--- ---- the test
-pub both-first : (first second : List ℕ) (x y : ℕ) → cell first x y ≡ 0 → Tells false (InBoth first second x y)
-both-first first second x y h = never (λ s. s .0 h)
-
-pub both-second : (first second : List ℕ) (x y : ℕ) → cell second x y ≡ 0 → Tells false (InBoth first second x y)
-both-second first second x y h = never (λ s. s .1 h)
-
-pub both-open : (first second : List ℕ) (x y : ℕ) → ¬ (cell first x y ≡ 0) → ¬ (cell second x y ≡ 0) →
-    Tells true (InBoth first second x y)
-both-open first second x y h k = surely (h, k)
-
--- what is stored by it
-pub both-is : {S : Type 0} (b : Bool) {c z : ℕ} → Tells b S → (b ≡ true → c ≡ 1) × (b ≡ false → c ≡ 0) →
-    (b ≡ true → z ≡ 0) × (b ≡ false → z ≡ none) → Both S c z
-both-is true t f g =
-    let s = t .sure tt in record {
-      cut = λ h e. omega (arith, f .0 refl, e);
-      uncut = λ h. s;
-      clear = λ h. g .0 refl;
-      lifted = λ h. s;
-      veils = λ h. absurd (h (g .0 refl));
-    }
-both-is false t f g =
-    record {
-      cut = λ h. absurd (t .told h);
-      uncut = λ h. absurd (h (f .1 refl));
-      clear = λ h. absurd (t .told h);
-      lifted = λ h. absurd (omega (arith, h, g .1 refl));
-      veils = λ h. g .1 refl;
-    }
+use Rattle.rules.specs.Cells.{cell}
+use Rattle.cutting.specs.Rows.{none, cut-by, veil-by, Veil, Read}
 
 -- ---- each lane of the veil is 0 or none
 clear : (n k : ℕ) → _≡_ {A = ℕ} (getD (replicate n 0) k 0) 0
@@ -64,62 +31,72 @@ veil-set {veil} {u} v k l e = record { size = length-set veil k u ∙ v .size; a
         (sym (ap (λ (b : ℕ). getD (set veil k u) b 0) q ∙ getD-set-same veil k u 0 l)) e
     go a (no q) = subst (λ (z : ℕ). ¬ (z ≡ 0) → z ≡ none) (sym (getD-set-other veil k a u 0 q)) (v .at a)
 
+-- ---- a store at a b: its own cell, and every other
+module _ (t : List ℕ) (a b v : ℕ) (s : length t ≡ all-cells) (ar : a < row) (br : b < row) where
+  cell-same : cell (set t (place a b) v) a b ≡ v
+  cell-same = getD-set-same t (place a b) v 0 (omega arith)
+
+  cell-other : (p q : ℕ) → p < row → q < row → ¬ ((p ≡ a) × (q ≡ b)) → cell (set t (place a b) v) p q ≡ cell t p q
+  cell-other p q pr qr ne = getD-set-other t (place a b) (place p q) v 0 (λ k. ne (omega arith, omega arith))
+
 -- ---- the corner y is read, with the corners below t
 pub record Reading (first second cuts veil : List ℕ) (n y t : ℕ) : Type 0 where
   pub done : Read first second cuts veil n y
-  pub now : (x : ℕ) → x < t → Both (InBoth first second x y) (cell cuts x y) (cell veil y x)
+  pub cut : (x : ℕ) → x < t → cell cuts x y ≡ cut-by (cell first x y) (cell second x y)
+  pub lane : (x : ℕ) → x < t → cell veil y x ≡ veil-by (cell first x y) (cell second x y)
 
 pub reading-none : {first second cuts veil : List ℕ} {n y : ℕ} → Read first second cuts veil n y →
     Reading first second cuts veil n y 0
-reading-none r = record { done = r; now = λ x h. absurd (omega arith) }
+reading-none r = record { done = r; cut = λ x h. absurd (omega arith); lane = λ x h. absurd (omega arith) }
 
 pub reading-more : {first second cuts veil cuts′ veil′ : List ℕ} {n y x c z : ℕ} → n ≤ row → y < n → x < n →
-    Reading first second cuts veil n y x → Both (InBoth first second x y) c z → cuts′ ≡ set cuts (place x y) c →
-    veil′ ≡ set veil (place y x) z → Reading first second cuts′ veil′ n y (x + 1)
-reading-more {first} {second} {cuts} {veil} {n} {y} {x} {c} {z} n64 yn xn r b e f = rw (e, f) record {
-  done = record {
-    cuts-size = length-set cuts (place x y) c ∙ r .done .cuts-size;
-    at = λ p q pn qy. other p q (λ k. omega (arith, k .1)) pn (omega arith) (r .done .at p q pn qy);
-    veils = veil-set (r .done .veils) (place y x) (omega (arith, r .done .veils .size)) (b .veils);
-  };
-  now = below-more _ _ (λ p px. other p y (λ k. omega (arith, k .0)) (omega arith) yn (r .now p px)) here;
-}
-  where
-    other : (p q : ℕ) → ¬ ((p ≡ x) × (q ≡ y)) → p < n → q < n →
-        Both (InBoth first second p q) (cell cuts p q) (cell veil q p) →
-        Both (InBoth first second p q) (cell (set cuts (place x y) c) p q) (cell (set veil (place y x) z) q p)
-    other p q ne pn qn =
-        subst
-        (λ (k : ℕ). Both (InBoth first second p q) (cell cuts p q) (cell veil q p) →
-        Both (InBoth first second p q) k (cell (set veil (place y x) z) q p))
-        (sym (getD-set-other cuts (place x y) (place p q) c 0 (λ k. ne (omega arith, omega arith))))
-        (λ h. subst (λ (k : ℕ). Both (InBoth first second p q) (cell cuts p q) k)
-        (sym (getD-set-other veil (place y x) (place q p) z 0 (λ k. ne (omega arith, omega arith)))) h)
-
-    here : Both (InBoth first second x y) (cell (set cuts (place x y) c) x y) (cell (set veil (place y x) z) y x)
-    here =
-        subst (λ (k : ℕ). Both (InBoth first second x y) k (cell (set veil (place y x) z) y x))
-        (sym (getD-set-same cuts (place x y) c 0 (omega (arith, r .done .cuts-size))))
-        (subst (λ (k : ℕ). Both (InBoth first second x y) c k)
-        (sym (getD-set-same veil (place y x) z 0 (omega (arith, r .done .veils .size)))) b)
+    Reading first second cuts veil n y x → c ≡ cut-by (cell first x y) (cell second x y) →
+    z ≡ veil-by (cell first x y) (cell second x y) → cuts′ ≡ set cuts (place x y) c → veil′ ≡ set veil (place y x) z →
+    Reading first second cuts′ veil′ n y (x + 1)
+reading-more {first} {second} {cuts} {veil} {n} {y} {x} {c} {z} nr yn xn r k l e f =
+    let w = r .done .veils .size in
+    let cut-other = cell-other cuts x y c (r .done .cuts-size) (omega arith) (omega arith) in
+    let lane-other = cell-other veil y x z w (omega arith) (omega arith) in
+    rw (e, f) record {
+      done = record {
+        cuts-size = length-set cuts (place x y) c ∙ r .done .cuts-size;
+        cut = λ p q pn qy.
+            cut-other p q (omega arith) (omega arith) (λ k. omega (arith, k .1)) ∙ r .done .cut p q pn qy;
+        lane = λ p q pn qy.
+            lane-other q p (omega arith) (omega arith) (λ k. omega (arith, k .0)) ∙ r .done .lane p q pn qy;
+        veils = veil-set (r .done .veils) (place y x) (omega arith) (λ h. omega arith);
+      };
+      cut =
+          below-more _ _
+          (λ p px. cut-other p y (omega arith) (omega arith) (λ k. omega (arith, k .0)) ∙ r .cut p px)
+          (cell-same cuts x y c (r .done .cuts-size) (omega arith) (omega arith) ∙ k);
+      lane =
+          below-more _ _
+          (λ p px. lane-other y p (omega arith) (omega arith) (λ k. omega (arith, k .1)) ∙ r .lane p px)
+          (cell-same veil y x z w (omega arith) (omega arith) ∙ l);
+    }
 
 pub reading-end : {first second cuts veil : List ℕ} {n y t : ℕ} → Reading first second cuts veil n y t → t ≡ n →
     Read first second cuts veil n (y + 1)
 reading-end {first} {second} {cuts} {veil} {n} {y} r e = record {
   cuts-size = r .done .cuts-size;
-  at = λ p q pn qy. go p q pn qy (decLt q y);
+  cut = λ x q xn. below-more
+      (λ (q : ℕ). cell cuts x q ≡ cut-by (cell first x q) (cell second x q)) y
+      (λ q. r .done .cut x q xn) (r .cut x (omega arith)) q;
+  lane = λ x q xn. below-more
+      (λ (q : ℕ). cell veil q x ≡ veil-by (cell first x q) (cell second x q)) y
+      (λ q. r .done .lane x q xn) (r .lane x (omega arith)) q;
   veils = r .done .veils;
 }
-  where
-    go : (p q : ℕ) → p < n → q < y + 1 → Dec (q < y) → Both (InBoth first second p q) (cell cuts p q) (cell veil q p)
-    go p q pn qy (yes l) = r .done .at p q pn l
-    go p q pn qy (no l) =
-        let k : y ≡ q = omega arith in
-        subst (λ (k : ℕ). Both (InBoth first second p k) (cell cuts p k) (cell veil k p)) k (r .now p (omega arith))
 
 pub read-none : {first second cuts veil : List ℕ} {n : ℕ} → length cuts ≡ all-cells → Veil veil →
     Read first second cuts veil n 0
-read-none l v = record { cuts-size = l; at = λ x y xn h. absurd (omega arith); veils = v }
+read-none l v = record {
+  cuts-size = l;
+  cut = λ x y xn h. absurd (omega arith);
+  lane = λ x y xn h. absurd (omega arith);
+  veils = v;
+}
 
 pub read-at : {first second cuts veil : List ℕ} {n t u : ℕ} → Read first second cuts veil n t → t ≡ u →
     Read first second cuts veil n u

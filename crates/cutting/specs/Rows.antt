@@ -1,11 +1,11 @@
 -- Tables as lists of cells, and what the functions that work on rows promise: a row has a lane for each centre.
 use mathlib.Core.Path.{_≡_}
 use mathlib.Core.List.{List}
-use Prim.Native.Nat.{ℕ, suc, _+_, _*_, _<_, _≤_, min}
+use Prim.Native.Nat.{ℕ, suc, _+_, _*_, _-_, _/_, _%_, _<_, _≤_, min}
 use lib.ListN.{length, getD}
 use Rattle.limits.specs.Limits.{row, all-cells}
 use Rattle.rules.specs.Cutting.{one}
-use Rattle.rules.specs.Cells.{cell, InBoth}
+use Rattle.rules.specs.Cells.{cell}
 use Rattle.rules.specs.Table as rules
 use Rattle.rules.specs.Columns.{pays, Least, Lane, Columned}
 
@@ -64,18 +64,20 @@ pub record Veil (veil : List ℕ) : Type 0 where
   pub size : length veil ≡ all-cells
   pub at : (k : ℕ) → ¬ (getD veil k 0 ≡ 0) → getD veil k 0 ≡ none
 
--- ---- the readings: of corners with the sight S, c is the cell of cuts and z the lane of the veil
-pub record Both (S : Type 0) (c z : ℕ) : Type 0 where
-  pub cut : S → ¬ (c ≡ 0)
-  pub uncut : ¬ (c ≡ 0) → S
-  pub clear : S → z ≡ 0
-  pub lifted : z ≡ 0 → S
-  pub veils : ¬ (z ≡ 0) → z ≡ none
+-- ---- the readings, by the cells a and b of a pair in the two drawings
+-- 1 where the pair may be a cut, else 0
+abbrev pub cut-by : ℕ → ℕ → ℕ
+cut-by a b = min (a % 2) (b % 2)
+
+-- 0 where its first corner, as a centre, sees the second, else none
+abbrev pub veil-by : ℕ → ℕ → ℕ
+veil-by a b = none - none * min (a / 2 % 2) (b / 2 % 2)
 
 -- the corners below t have been read with those below n
 pub record Read (first second cuts veil : List ℕ) (n t : ℕ) : Type 0 where
   pub cuts-size : length cuts ≡ all-cells
-  pub at : (x y : ℕ) → x < n → y < t → Both (InBoth first second x y) (cell cuts x y) (cell veil y x)
+  pub cut : (x y : ℕ) → x < n → y < t → cell cuts x y ≡ cut-by (cell first x y) (cell second x y)
+  pub lane : (x y : ℕ) → x < n → y < t → cell veil y x ≡ veil-by (cell first x y) (cell second x y)
   pub veils : Veil veil
 
 -- ---- columns

@@ -7,7 +7,7 @@ use Prim.Native.Nat.{ℕ, suc, _+_, _-_, _<_, _≤_}
 use lib.Dec.{T}
 use lib.ListN.{length, getD}
 use Rattle.limits.specs.Limits.{row, all-cells}
-use Rattle.rules.specs.Cutting.{First, one}
+use Rattle.rules.specs.Cutting.{Pairs, Valid, First, one}
 use Rattle.rules.specs.Centre.{HasCentre}
 use Rattle.rules.specs.Cells.{cell, marked}
 use Rattle.rules.specs.Columns.{Solved}
@@ -147,3 +147,9 @@ Solvable veil val left right n = (cuts : List ℕ) × Solves cuts veil val left 
 
 abbrev pub Draws : List ℕ → List ℕ → List ℕ → List ℕ → ℕ → List ℕ → Type 0
 Draws veil val left right n after = (cuts : List ℕ) → Solves cuts veil val left right n → Drawn cuts veil n after
+
+-- a search by the readings: the set is the first smallest cutting, or no set is valid and the array is as before
+pub record Finds (cuts veil : List ℕ) (n : ℕ) (before after : List ℕ) (r : Bool) : Type 0 where
+  pub some : r ≡ true → Drawn cuts veil n after
+  pub no-set : r ≡ false → (C : Pairs) → ¬ Valid (Cut cuts) (HasCentre (Sees (cell veil))) n C
+  pub kept : r ≡ false → after ≡ before

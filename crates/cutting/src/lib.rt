@@ -1,5 +1,5 @@
-// The first smallest cutting of n corners as a set of pairs, from who sees whom in two drawings. Knows no coordinate
-// and no byte of an answer.
+// The first smallest cutting of n corners as a set of pairs, from who sees whom in two drawings: for a cut, and as a
+// centre. Knows no coordinate and no byte of an answer.
 //
 // The search fills the values of the lines column by column (`lines`, over the rows of `lanes`); of the earlier
 // columns it keeps tables of pairs only. The cutting is then traced from the values (`pieces`, `tracing`). No choice
@@ -21,9 +21,11 @@ use lines::solve;
 use reading::read;
 use tracing::trace;
 ghost use mathlib.Core.Path.{_≡_};
+ghost use Prim.Native.Nat.{_≤_};
 ghost use lib.ListN.{length};
-ghost use Rattle.limits.specs.Limits.{all-cells};
+ghost use Rattle.limits.specs.Limits.{fewest-corners, row, all-cells};
 ghost use Rattle.cutting.specs.Rows.{Veil};
+ghost use Rattle.cutting.specs.Tracing.{Finds};
 ghost use Rattle.cutting.specs.Answer.{Served, Searches};
 
 // What came of it; `number` of `specs/Answer` has 01's number for each case, and `Searches` what it promises.
@@ -33,53 +35,51 @@ pub enum Searched {
     Found,
 }
 
-// The readings, the tables, the set.
+// The tables are filled by the readings, and the set is traced from them, where there is one: the value of the whole
+// range says so.
 fn work(
     n: usize,
-    first: &[u8],
-    second: &[u8],
-    cuts: &mut [u8],
-    veil: &mut [u8],
+    cuts: &[u8],
+    veil: &[u8],
     val: &mut [u8],
     left: &mut [u8],
     right: &mut [u8],
     col: &mut [u8],
     pairs: &mut [u8],
-) -> Searched
-    requires { ⌜ Served n (now first) (now second) (now pairs) × (length (now pairs) ≡ all-cells) ⌝ }
+) -> bool
     requires { ⌜
-        (length (now cuts) ≡ all-cells) × Veil (now veil) × (length (now val) ≡ all-cells) ×
-        (length (now left) ≡ all-cells) × (length (now right) ≡ all-cells) × (length (now col) ≡ all-cells) ⌝ }
+        (fewest-corners ≤ n) × (n ≤ row) × (all-cells ≤ length (now cuts)) × Veil (now veil) ×
+        (length (now pairs) ≡ all-cells) ⌝ }
+    requires { ⌜
+        (length (now val) ≡ all-cells) × (length (now left) ≡ all-cells) × (length (now right) ≡ all-cells) ×
+        (length (now col) ≡ all-cells) ⌝ }
     ensures { λ r. ⌜
-        Searches n (now (first .entry)) (now (second .entry)) (now (pairs .entry)) (now (pairs .exit)) r ⌝ }
+        Finds (now (cuts .entry)) (now (veil .entry)) n (now (pairs .entry)) (now (pairs .exit)) r ⌝ }
 {
-    read(first, second, cuts, veil, n);
     solve(cuts, veil, val, left, right, col, n);
     if cell(val, 0, n - 1) == NONE {
-        return Searched::NoCutting;
+        return false;
     }
     trace(veil, val, left, right, col, n, pairs);
-    Searched::Found
+    true
 }
 
 // The tables stand in this frame, and no loop beside them.
-fn frame(n: usize, first: &[u8], second: &[u8], pairs: &mut [u8]) -> Searched
-    requires { ⌜ Served n (now first) (now second) (now pairs) × (length (now pairs) ≡ all-cells) ⌝ }
+fn find(n: usize, cuts: &[u8], veil: &[u8], pairs: &mut [u8]) -> bool
+    requires { ⌜
+        (fewest-corners ≤ n) × (n ≤ row) × (all-cells ≤ length (now cuts)) × Veil (now veil) ×
+        (length (now pairs) ≡ all-cells) ⌝ }
     ensures { λ r. ⌜
-        Searches n (now (first .entry)) (now (second .entry)) (now (pairs .entry)) (now (pairs .exit)) r ⌝ }
+        Finds (now (cuts .entry)) (now (veil .entry)) n (now (pairs .entry)) (now (pairs .exit)) r ⌝ }
 {
-    let mut cuts = [0u8; ALL_CELLS];
-    let mut veil = [0u8; ALL_CELLS];
     let mut val = [0u8; ALL_CELLS];
     let mut left = [0u8; ALL_CELLS];
     let mut right = [0u8; ALL_CELLS];
     let mut col = [0u8; ALL_CELLS];
     work(
         n,
-        first,
-        second,
-        &mut cuts,
-        &mut veil,
+        cuts,
+        veil,
         &mut val,
         &mut left,
         &mut right,
@@ -88,10 +88,26 @@ fn frame(n: usize, first: &[u8], second: &[u8], pairs: &mut [u8]) -> Searched
     )
 }
 
-// The first smallest cutting of n corners. Cell x * 64 + y of `first` and of `second` is not 0 where x sees y in that
-// drawing. Where there is a cutting, cell a * 64 + b of `pairs` becomes 1 where a < b is a cut of the first smallest,
-// and every other cell of the 4,096 becomes 0; those beyond stay. What is not served leaves `pairs` alone: n outside 3
-// to 64, arrays under 4,096 cells. So does a search without a find.
+// The readings stand in this one: behind it nobody looks at the caller's cells.
+fn frame(n: usize, first: &[u8], second: &[u8], pairs: &mut [u8]) -> Searched
+    requires { ⌜ Served n (now first) (now second) (now pairs) × (length (now pairs) ≡ all-cells) ⌝ }
+    ensures { λ r. ⌜
+        Searches n (now (first .entry)) (now (second .entry)) (now (pairs .entry)) (now (pairs .exit)) r ⌝ }
+{
+    let mut cuts = [0u8; ALL_CELLS];
+    let mut veil = [0u8; ALL_CELLS];
+    read(first, second, &mut cuts, &mut veil, n);
+    if find(n, &cuts, &veil, pairs) {
+        return Searched::Found;
+    }
+    Searched::NoCutting
+}
+
+// The first smallest cutting of n corners. Cell x * 64 + y of `first` and of `second` tells two kinds of sight in that
+// drawing: 1 says that x sees y by the strict rule, for a cut, and 2 that x, as a centre, sees y; no other of its
+// binary digits counts. Where there is a cutting, cell a * 64 + b of `pairs` becomes 1 where a < b is a cut of the
+// first smallest, and every other cell of the 4,096 becomes 0; those beyond stay. What is not served leaves `pairs`
+// alone: n outside 3 to 64, arrays under 4,096 cells. So does a search without a find.
 pub fn search(n: usize, first: &[u8], second: &[u8], pairs: &mut [u8]) -> Searched
     ensures { λ r. ⌜
         Searches n (now (first .entry)) (now (second .entry)) (now (pairs .entry)) (now (pairs .exit)) r ⌝ }

@@ -1,18 +1,24 @@
 -- Pairs of corners as data: flat cells, a row for each corner that there may be (`row` of `limits`), however many
--- there are. A cell that is not 0 says that x sees y, in the array of a drawing, and that the pair x y is in the set,
--- in the array of a set of pairs.
+-- there are. In the array of a set of pairs, a cell that is not 0 says that the pair x y is in the set:
 --
 --         y:  0  1  2  3  4  5   the hexagon cut along 0-2 and 2-5. Of a set of pairs only the cells
 --     x = 0   -  -  1  .  .  .   shown as . or 1 count, right of the diagonal and of its neighbours.
 --     x = 1   -  -  -  .  .  .
 --     x = 2   -  -  -  -  .  1
 --
+-- In the array of a drawing, a cell tells two kinds of sight for the ordered pair x, y: 1 says that x sees y by the
+-- strict rule, for a cut, and 2 that x, as a centre, sees y.
+--
+--     cell          0   1   2   3   4   5   ..   255
+--     for a cut     .   1   .   1   .   1   ..    1      whether it is odd
+--     as a centre   .   .   2   2   .   .   ..    2      whether its half, rounded down, is odd
+--
 -- What has to be believed are the definitions; the laws are those that a marker of pairs needs.
 use mathlib.Core.Path.{_≡_, refl, ap, fun-ext, _∙_}
 use mathlib.Core.Bool.{Bool, true, false, not, _&&_, _||_}
 use mathlib.Core.Logic.{_↔_}
 use mathlib.Core.List.{List, [], _∷_}
-use Prim.Native.Nat.{ℕ, zero, suc, _+_, _*_, _<_, _≤_}
+use Prim.Native.Nat.{ℕ, zero, suc, _+_, _*_, _/_, _%_, _<_, _≤_}
 use native.Mathlib.Omega.{arith}
 use borrow.Author.Tests.{lt-ltb, ne-eqb, eqb-true, eqb-false, ltb-true}
 use lib.Dec.{T, eqb, ltb, ltb→lt}
@@ -22,24 +28,34 @@ use lib.Seq.{getD-set-same, getD-set-other}
 use Rattle.limits.specs.Limits.{row, all-cells, place}
 use Rattle.rules.specs.Cutting.{Pairs, pieces}
 
--- the cell of x and y, and whether it is not 0
+-- the cell of x and y
 abbrev pub cell : List ℕ → ℕ → ℕ → ℕ
 cell t x y = getD t (place x y) 0
 
-abbrev pub filled : List ℕ → ℕ → ℕ → Bool
-filled t x y = not (eqb (cell t x y) 0)
+-- ---- sight in one drawing. Nothing is assumed of the cells: neither kind follows from the other, and a corner sees
+-- itself only where its own cell says so.
+-- 01, "Sight": x sees y. 02, K3: "A cut keeps the strict rule."
+abbrev pub StrictlySees : List ℕ → ℕ → ℕ → Type 0
+StrictlySees t x y = cell t x y % 2 ≡ 1
 
--- 01, "Sight", of one drawing: x sees y. Nothing is assumed of the cells: a corner sees itself only where its own cell
--- says so.
-abbrev pub Sees : List ℕ → ℕ → ℕ → Type 0
-Sees t x y = ¬ (cell t x y ≡ 0)
+-- x, as a centre, sees y. 02, K3: "for a centre, sight holds when every point of the segment lies in or on the
+-- outline."
+abbrev pub CentreSees : List ℕ → ℕ → ℕ → Type 0
+CentreSees t x y = cell t x y / 2 % 2 ≡ 1
 
--- "sees .. in both drawings", and the same as a test
+-- 01, "Cuttings": a centre "sees every corner of it in both drawings"; and the same as tests
 abbrev pub InBoth : List ℕ → List ℕ → ℕ → ℕ → Type 0
-InBoth first second x y = Sees first x y × Sees second x y
+InBoth first second x y = CentreSees first x y × CentreSees second x y
+
+abbrev pub centre-sees : List ℕ → ℕ → ℕ → Bool
+centre-sees t x y = eqb (cell t x y / 2 % 2) 1
 
 abbrev pub both-see : List ℕ → List ℕ → ℕ → ℕ → Bool
-both-see first second x y = filled first x y && filled second x y
+both-see first second x y = centre-sees first x y && centre-sees second x y
+
+-- ---- a set of pairs
+abbrev pub filled : List ℕ → ℕ → ℕ → Bool
+filled t x y = not (eqb (cell t x y) 0)
 
 -- the set of pairs: those a, b of no neighbours, a < b < row, whose cell is not 0. No other cell matters: neither
 -- those of neighbours nor those below the diagonal.
@@ -47,20 +63,27 @@ unfoldable pub marked : List ℕ → Pairs
 marked t a b = (ltb (suc a) b && ltb b row) && filled t a b
 
 -- ---- the tests tell what they say
-pub filled-is : (t : List ℕ) (x y : ℕ) → T (filled t x y) ↔ Sees t x y
-filled-is t x y = go (eqb (cell t x y) 0) refl
+centre-sees-is : (t : List ℕ) (x y : ℕ) → T (centre-sees t x y) ↔ CentreSees t x y
+centre-sees-is t x y = go (centre-sees t x y) refl
   where
-    go : (b : Bool) → eqb (cell t x y) 0 ≡ b → T (not b) ↔ Sees t x y
-    go true e = ((λ k. absurd k), λ f. absurd (f (eqb-true (cell t x y) 0 e)))
-    go false e = ((λ k. eqb-false (cell t x y) 0 e), λ f. tt)
+    go : (b : Bool) → centre-sees t x y ≡ b → T b ↔ CentreSees t x y
+    go true e = ((λ k. eqb-true (cell t x y / 2 % 2) 1 e), λ f. tt)
+    go false e = ((λ k. absurd k), λ f. absurd (eqb-false (cell t x y / 2 % 2) 1 e f))
 
 pub both-see-is : (first second : List ℕ) (x y : ℕ) → T (both-see first second x y) ↔ InBoth first second x y
 both-see-is first second x y =
-    let p = filled-is first x y in
-    let q = filled-is second x y in
-    let f = filled first x y in
-    let s = filled second x y in
+    let p = centre-sees-is first x y in
+    let q = centre-sees-is second x y in
+    let f = centre-sees first x y in
+    let s = centre-sees second x y in
     ((λ k. (p .0 (and-l f s k), q .0 (and-r f s k))), λ k. and-i f s (p .1 (k .0)) (q .1 (k .1)))
+
+pub filled-is : (t : List ℕ) (x y : ℕ) → T (filled t x y) ↔ ¬ (cell t x y ≡ 0)
+filled-is t x y = go (eqb (cell t x y) 0) refl
+  where
+    go : (b : Bool) → eqb (cell t x y) 0 ≡ b → T (not b) ↔ ¬ (cell t x y ≡ 0)
+    go true e = ((λ k. absurd k), λ f. absurd (f (eqb-true (cell t x y) 0 e)))
+    go false e = ((λ k. eqb-false (cell t x y) 0 e), λ f. tt)
 
 -- ---- the pairs of a set
 pub marked-wide : (t : List ℕ) (a b : ℕ) → T (marked t a b) → suc a < b
@@ -149,3 +172,23 @@ hexagon = set (set (replicate (6 * row) 0) (place 0 2) 1) (place 2 5) 1
 hexagon-pieces : pieces 6 (marked hexagon) ≡ (0 ∷ 2 ∷ 5 ∷ []) ∷ (0 ∷ 1 ∷ 2 ∷ []) ∷ (2 ∷ 3 ∷ 4 ∷ 5 ∷ []) ∷ []
 unfolding pieces marked hexagon
 hexagon-pieces = refl
+
+-- ---- tried: the cells above, as the row of corner 0
+kinds : List ℕ
+kinds = 0 ∷ 1 ∷ 2 ∷ 3 ∷ 4 ∷ 5 ∷ 255 ∷ []
+
+one-for-a-cut : StrictlySees kinds 0 1 × ¬ CentreSees kinds 0 1
+unfolding kinds
+one-for-a-cut = (refl, λ e. omega (arith, e))
+
+two-for-a-centre : ¬ StrictlySees kinds 0 2 × CentreSees kinds 0 2
+unfolding kinds
+two-for-a-centre = (λ e. omega (arith, e), refl)
+
+neither-by-four : ¬ StrictlySees kinds 0 4 × ¬ CentreSees kinds 0 4
+unfolding kinds
+neither-by-four = (λ e. omega (arith, e), λ e. omega (arith, e))
+
+both-by-255 : StrictlySees kinds 0 6 × CentreSees kinds 0 6
+unfolding kinds
+both-by-255 = (refl, refl)

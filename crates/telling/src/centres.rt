@@ -2,7 +2,7 @@
 //
 //     out:  k 0 corners  k 0 corners ..    out[from..to] are the corners of one piece: `lowest` chooses among them,
 //           at  from   to                  and another choice would stand beside it
-use crate::cells::has;
+use crate::cells::sees;
 use crate::cells::wide;
 ghost use mathlib.Core.Path.{_≡_};
 ghost use Prim.Native.Nat.{_<_, _≤_};
@@ -12,7 +12,7 @@ ghost use Rattle.rules.specs.Cells.{both-see};
 ghost use Rattle.rules.specs.Lays.{all, centre};
 ghost use Rattle.telling.specs.Parts.{Small, Pieces, Centred};
 
-// Whether x sees every corner of the piece in both drawings.
+// Whether x, as a centre, sees every corner of the piece in both drawings.
 fn sees_all(first: &[u8], second: &[u8], piece: &[u8], x: usize) -> bool
     requires { ⌜ (all-cells ≤ length (now first)) × (all-cells ≤ length (now second)) ⌝ }
     requires { ⌜ Small (now piece) × (x < row) ⌝ }
@@ -21,10 +21,10 @@ fn sees_all(first: &[u8], second: &[u8], piece: &[u8], x: usize) -> bool
     let mut p = 0;
     while p < piece.len() {
         let y = wide(piece[p]);
-        if !has(first, x, y) {
+        if !sees(first, x, y) {
             return false;
         }
-        if !has(second, x, y) {
+        if !sees(second, x, y) {
             return false;
         }
         p += 1;

@@ -23,9 +23,9 @@ pub enum Told {
 }
 
 // The pieces of n corners cut along `pairs`, each with its lowest centre. The pair a < b is in the set where cell
-// a * ROW + b of `pairs` is not 0, and x sees y in a drawing where cell x * ROW + y of `first` or `second` is not 0.
-// The pairs may cross: what is told of them is fixed all the same. p pieces take 4p + n - 2 bytes, at most 5n - 10.
-// What is refused leaves `out` alone.
+// a * ROW + b of `pairs` is not 0; x, as a centre, sees y in a drawing where cell x * ROW + y of `first` or `second`
+// has the 2 among its binary digits, and no other digit counts. The pairs may cross: what is told of them is fixed all
+// the same. p pieces take 4p + n - 2 bytes, at most 5n - 10. What is refused leaves `out` alone.
 pub fn tell(n: usize, pairs: &[u8], first: &[u8], second: &[u8], out: &mut [u8]) -> Told
     ensures { λ r. ⌜
         Telling n (now (pairs .entry)) (now (first .entry)) (now (second .entry))

@@ -30,9 +30,9 @@ fn refused(call: u64, number: u64, n: usize, first: &[u8], second: &[u8], room: 
 }
 
 pub fn all() {
-    let first = [1u8; ALL_CELLS];
-    let second = [1u8; ALL_CELLS];
-    let short = [1u8; ALL_CELLS - 1];
+    let first = [3u8; ALL_CELLS];
+    let second = [3u8; ALL_CELLS];
+    let short = [3u8; ALL_CELLS - 1];
     let few = refused(1, 1, FEWEST_CORNERS - 1, &first, &second, ROOM);
     let many = refused(2, 1, MOST_CORNERS + 1, &first, &second, BUFFER);
     let one = refused(3, 1, MOST_CORNERS, &short, &second, ROOM);

@@ -1,14 +1,16 @@
--- `reading::mark`: one pair for each return.
-use mathlib.Core.Path.{refl, sym, _∙_}
-use Rattle.cutting.proofs.Values.{clash}
+-- `reading::mark`: each return by the remainders.
+use native.Mathlib.Omega.{arith}
 use Rattle.cutting.proofs.reading.mark.Statement.{statement}
 use Rattle.cutting.proofs.reading.mark.Tie as tie
 
 returns : tie.Need-returns
-returns c = (λ e. refl, λ e. clash (sym ((c .if1) .taken) ∙ e))
+returns c = omega arith
 
 returns-2 : tie.Need-returns-2
-returns-2 c = (λ e. clash (sym e ∙ (c .if1) .left), λ e. refl)
+returns-2 c = omega arith
+
+returns-3 : tie.Need-returns-3
+returns-3 c = omega arith
 
 pub mark-spec : {M : Type 1} → statement M
-mark-spec = tie.close (tie.spec returns returns-2)
+mark-spec = tie.close (tie.spec returns returns-2 returns-3)

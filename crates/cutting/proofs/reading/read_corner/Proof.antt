@@ -1,11 +1,12 @@
 -- `reading::read_corner`: the corners below x have been read with y.
-use mathlib.Core.Path.{_≡_}
+use mathlib.Core.Path.{_≡_, ap₂, _∙_}
 use Prim.Native.Nat.{_≤_, _-_}
 use lib.ListN.{length}
 use native.Mathlib.Omega.{arith}
 use borrow.Author.Needs.{needs}
 use Rattle.limits.specs.Limits.{all-cells}
-use Rattle.cutting.proofs.Readings.{Reading, reading-none, reading-more, reading-end, both-is}
+use Rattle.cutting.specs.Rows.{cut-by, veil-by}
+use Rattle.cutting.proofs.Readings.{Reading, reading-none, reading-more, reading-end}
 use Rattle.cutting.proofs.reading.read_corner.Statement.{statement}
 use Rattle.cutting.proofs.reading.read_corner.Tie as tie
 
@@ -21,8 +22,11 @@ loop-holds c =
     let pre = c .before .before .before .before .pre in
     (omega arith, pre .1 .cuts-size, pre .1 .veils .size, reading-none (pre .1))
 
-both-requires : tie.Need-both-requires Inv-loop μ-loop
-both-requires c κs = search needs
+cell-requires : tie.Need-cell-requires Inv-loop μ-loop
+cell-requires c κs = search needs
+
+cell-requires-2 : tie.Need-cell-requires-2 Inv-loop μ-loop
+cell-requires-2 c κs = search needs
 
 mark-requires : tie.Need-mark-requires Inv-loop μ-loop
 mark-requires c κs = search needs
@@ -48,15 +52,18 @@ loop-again c =
     let after-shade = after-put2 .before in
     let after-put = after-shade .before .before .before .before in
     let after-mark = after-put .before in
-    let after-both = after-mark .before .before in
-    let at-test = after-both .before in
+    let after-cell2 = after-mark .before .before in
+    let after-cell = after-cell2 .before in
+    let at-test = after-cell .before in
     let at-loop = at-test .before in
-    let pre = at-loop .before .before .before .before .before .pre in (
+    let pre = at-loop .before .before .before .before .before .pre in
+    let a = after-cell .cell .ensures in
+    let b = after-cell2 .cell2 .ensures in (
       omega (arith, at-test .loop-test .taken),
       omega (arith, after-put .put .kept .0, at-loop .loop .inv .1),
       omega (arith, after-put2 .put2 .kept .0, at-loop .loop .inv .2),
       reading-more (pre .0 .3) (pre .0 .2) (at-test .loop-test .taken) (at-loop .loop .inv .3)
-          (both-is _ (after-both .both .ensures) (after-mark .mark .ensures) (after-shade .shade .ensures))
+          (after-mark .mark .ensures ∙ ap₂ cut-by a b) (after-shade .shade .ensures ∙ ap₂ veil-by a b)
           (after-put .put .ensures) (after-put2 .put2 .ensures),
     )
 
@@ -76,7 +83,8 @@ read-corner-spec =
     Inv-loop
     μ-loop
     loop-holds
-    both-requires
+    cell-requires
+    cell-requires-2
     mark-requires
     put-requires
     shade-requires

@@ -7,7 +7,7 @@ use lib.ListN.{length, drop}
 use borrow.Author.Needs.{needs}
 use borrow.Author.Tests.{not-true, not-false}
 use Rattle.limits.specs.Limits.{row}
-use Rattle.rules.specs.Cells.{filled, both-see}
+use Rattle.rules.specs.Cells.{centre-sees, both-see}
 use Rattle.rules.specs.Lays.{all}
 use Rattle.telling.proofs.Corners.{corner-small, all-on, all-off, all-end}
 use Rattle.telling.proofs.centres.sees_all.Statement.{statement}
@@ -54,8 +54,8 @@ shared-slice-read-wide c = search needs
 wide-requires : tie.Need-wide-requires Inv-loop μ-loop
 wide-requires c κs = search needs
 
-has-requires : tie.Need-has-requires Inv-loop μ-loop
-has-requires c κs =
+sees-requires : tie.Need-sees-requires Inv-loop μ-loop
+sees-requires c κs =
     let s = c .before .before .before .before .before .before .before .pre in
     (s .0 .0, s .1 .1, small c)
 
@@ -63,18 +63,18 @@ returns : tie.Need-returns Inv-loop μ-loop
 returns c =
     let y = c .before .before .wide .result in
     let a = c .before .before .before .before .before .before .before .before .before .args in
-    let e = sym (c .before .has .ensures) ∙ not-true _ (c .if1 .taken) in
-    off (c .before .before) (ap (λ b. b && filled (a .second .now) (a .x) y) e)
+    let e = sym (c .before .sees .ensures) ∙ not-true _ (c .if1 .taken) in
+    off (c .before .before) (ap (λ b. b && centre-sees (a .second .now) (a .x) y) e)
 
-has-requires-2 : tie.Need-has-requires-2 Inv-loop μ-loop
-has-requires-2 c κs =
+sees-requires-2 : tie.Need-sees-requires-2 Inv-loop μ-loop
+sees-requires-2 c κs =
     let s = c .before .before .before .before .before .before .before .before .before .pre in
     (s .0 .1, s .1 .1, small (c .before .before))
 
 returns-2 : tie.Need-returns-2 Inv-loop μ-loop
 returns-2 c =
-    let e = sym (c .before .before .before .has .ensures) ∙ not-false _ (c .before .before .if1 .left) in
-    off (c .before .before .before .before) (ap₂ _&&_ e (sym (c .before .has2 .ensures) ∙ not-true _ (c .if2 .taken)))
+    let e = sym (c .before .before .before .sees .ensures) ∙ not-false _ (c .before .before .if1 .left) in
+    off (c .before .before .before .before) (ap₂ _&&_ e (sym (c .before .sees2 .ensures) ∙ not-true _ (c .if2 .taken)))
 
 add-p : tie.Need-add-p Inv-loop μ-loop
 add-p c = search needs
@@ -84,8 +84,8 @@ loop-less c = search needs
 
 loop-again : tie.Need-loop-again Inv-loop μ-loop
 loop-again c =
-    let e = sym (c .before .before .before .has .ensures) ∙ not-false _ (c .before .before .if1 .left) in
-    on (c .before .before .before .before) (ap₂ _&&_ e (sym (c .before .has2 .ensures) ∙ not-false _ (c .if2 .left)))
+    let e = sym (c .before .before .before .sees .ensures) ∙ not-false _ (c .before .before .if1 .left) in
+    on (c .before .before .before .before) (ap₂ _&&_ e (sym (c .before .sees2 .ensures) ∙ not-false _ (c .if2 .left)))
 
 returns-3 : tie.Need-returns-3 Inv-loop μ-loop
 returns-3 c = all-end _ _ (c .loop-test .left) (c .before .loop .inv)
@@ -99,9 +99,9 @@ sees-all-spec =
     loop-holds
     shared-slice-read-wide
     wide-requires
-    has-requires
+    sees-requires
     returns
-    has-requires-2
+    sees-requires-2
     returns-2
     add-p
     loop-less
