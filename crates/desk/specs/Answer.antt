@@ -8,6 +8,7 @@ use lib.IntN.{ℤ}
 use lib.ListN.{length}
 use Rattle.limits.specs.Limits.{Roomy}
 use Rattle.outline.specs.Drawing.{corners, Sees}
+use Rattle.outline.specs.InOrOn.{CentreSees}
 use Rattle.pair.specs.Pair.{Alike, of-drawings}
 use Rattle.rules.specs.Cutting.{Pairs}
 use Rattle.rules.specs.Refusals.{Line, line}
@@ -15,14 +16,17 @@ use Rattle.rules.specs.Plan.{Plan, stars, ValidBy, FirstBy, Cuttable}
 use Rattle.rules.specs.Result.{Result, ComesBack}
 use Rattle.desk.specs.declared.Outcome.{Outcome}
 
--- ---- 01, "Cuttings", of two drawings
+-- ---- 01, "Cuttings", of two drawings. There are two kinds of sight since 02, K3: "for a centre, sight holds when
+-- every point of the segment lies in or on the outline. A cut keeps the strict rule."
 module _ (first second : List ℤ) where
-  abbrev pub InBoth : ℕ → ℕ → Type 0
-  InBoth x y = Sees first x y × Sees second x y
-
-  -- "A cut is a pair that is no side and whose corners see each other in both drawings."
+  -- "A cut is a pair that is no side and whose corners see each other in both drawings": by 01's own rule, the strict
+  -- one (what a side is: `Cutting` of `rules`)
   abbrev pub Cut : ℕ → ℕ → Type 0
-  Cut a b = InBoth a b × InBoth b a
+  Cut a b = (Sees first a b × Sees second a b) × (Sees first b a × Sees second b a)
+
+  -- a centre x sees y in both drawings
+  abbrev pub InBoth : ℕ → ℕ → Type 0
+  InBoth x y = CentreSees first x y × CentreSees second x y
 
   -- "A centre of a piece is one of its own corners that sees every corner of it in both drawings."
   abbrev pub plan : Plan

@@ -17,11 +17,6 @@ use Rattle.desk.specs.declared.Outcome.{Outcome}
 abbrev pub Refusal : ℕ → Outcome → Type 0
 Refusal number o = (o .number ≡ number) × (o .pieces ≡ 0) × (o .bytes ≡ 0)
 
--- lines 1 to 8 do not apply
-pub record Ready (first second : List ℤ) (room : ℕ) : Type 0 where
-  pub sound : SoundPair first second
-  pub roomy : Roomy (corners first) room
-
 -- the first smallest cutting of the cells stands in `pairs`
 pub record FirstMarked (n : ℕ) (first second pairs : List ℕ) : Type 0 where
   pub served : Served n first second

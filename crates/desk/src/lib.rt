@@ -4,7 +4,7 @@ ghost use mathlib.Core.Path.{_≡_};
 ghost use lib.ListN.{length};
 ghost use Rattle.limits.specs.Limits.{all-cells};
 ghost use Rattle.desk.specs.Answer.{Answers, result};
-ghost use Rattle.desk.specs.Parts.{Refusal, Ready};
+ghost use Rattle.desk.specs.Parts.{Refusal};
 
 mod cut;
 pub mod stages;
@@ -30,7 +30,8 @@ fn refused(number: u8) -> Outcome
     }
 }
 
-// The sight of both drawings, and the answer by it.
+// The lines of 01's table in their order. The sight of both drawings is told by the call that judges them, and a sound
+// pair is cut by it.
 fn look(
     first: &[i32],
     second: &[i32],
@@ -38,34 +39,11 @@ fn look(
     sight2: &mut [u8],
     room: &mut [u8],
 ) -> Outcome
-    requires { ⌜ Ready (now first) (now second) (length (now room)) ⌝ }
     requires { ⌜ (length (now sight1) ≡ all-cells) × (length (now sight2) ≡ all-cells) ⌝ }
     ensures { λ r. ⌜
         Answers (now (first .entry)) (now (second .entry)) (now (room .entry)) (result r (now (room .exit))) ⌝ }
 {
-    drawing::sight(first, sight1);
-    drawing::sight(second, sight2);
-    cut(first.len() / 2, sight1, sight2, room)
-}
-
-// The cells of both drawings stand in this function's frame: 01's flat arrays.
-fn sound(first: &[i32], second: &[i32], room: &mut [u8]) -> Outcome
-    requires { ⌜ Ready (now first) (now second) (length (now room)) ⌝ }
-    ensures { λ r. ⌜
-        Answers (now (first .entry)) (now (second .entry)) (now (room .entry)) (result r (now (room .exit))) ⌝ }
-{
-    let mut sight1 = [0u8; ALL_CELLS];
-    let mut sight2 = [0u8; ALL_CELLS];
-    look(first, second, &mut sight1, &mut sight2, room)
-}
-
-// The answer for a pair: 01's number; with number 0 the room begins with the bytes of the first smallest cutting, and
-// else it keeps every byte.
-pub fn answer(first: &[i32], second: &[i32], room: &mut [u8]) -> Outcome
-    ensures { λ r. ⌜
-        Answers (now (first .entry)) (now (second .entry)) (now (room .entry)) (result r (now (room .exit))) ⌝ }
-{
-    let number = pair::check(first, second);
+    let number = pair::sight(first, second, sight1, sight2);
     if number == 1 {
         return refused(1);
     }
@@ -75,7 +53,18 @@ pub fn answer(first: &[i32], second: &[i32], room: &mut [u8]) -> Outcome
     if number != 0 {
         return refused(number);
     }
-    sound(first, second, room)
+    cut(first.len() / 2, sight1, sight2, room)
+}
+
+// The answer for a pair: 01's number; with number 0 the room begins with the bytes of the first smallest cutting, and
+// else it keeps every byte. The cells of both drawings stand in this function's frame: 01's flat arrays.
+pub fn answer(first: &[i32], second: &[i32], room: &mut [u8]) -> Outcome
+    ensures { λ r. ⌜
+        Answers (now (first .entry)) (now (second .entry)) (now (room .entry)) (result r (now (room .exit))) ⌝ }
+{
+    let mut sight1 = [0u8; ALL_CELLS];
+    let mut sight2 = [0u8; ALL_CELLS];
+    look(first, second, &mut sight1, &mut sight2, room)
 }
 
 // The same call for C, and for what links as C does: each slice is a pointer and a length, and the result comes by
