@@ -283,8 +283,10 @@ module _ (c : ℕ → Point) (n : ℕ) (closed : c n ≡ c 0) (simple : Simple c
     enough : (N T : ℤ) → Positive N → Positive T → Positive (N +ℤ T -ℤ pos 1) × ((N ≤ℤ (N +ℤ T)) × (T ≤ℤ (N +ℤ T)))
     enough N T N+ T+ = (
       by-ring (N ∷ T ∷ []) Positive (v 0 :+ (v 1 :- con (pos 1))) (v 0 :+ v 1 :- con (pos 1)) refl (positive-add N+ (positive-pred T+)),
-      (sub-le (by-ring (N ∷ T ∷ []) Nonneg (v 1) (v 0 :+ v 1 :- v 0) refl (positive-nonneg T+)),
-      sub-le (by-ring (N ∷ T ∷ []) Nonneg (v 0) (v 0 :+ v 1 :- v 1) refl (positive-nonneg N+))),
+      (
+        sub-le (by-ring (N ∷ T ∷ []) Nonneg (v 1) (v 0 :+ v 1 :- v 0) refl (positive-nonneg T+)),
+        sub-le (by-ring (N ∷ T ∷ []) Nonneg (v 0) (v 0 :+ v 1 :- v 1) refl (positive-nonneg N+)),
+      ),
     )
 
     is-pos : {X : Type 0} {z : ℤ} → Positive z → z ≡ pos 0 → X
@@ -413,12 +415,16 @@ module _ (c : ℕ → Point) (n : ℕ) (closed : c n ≡ c 0) (simple : Simple c
           → (K : ℤ) × (Positive (K -ℤ pos 1) × ((odd (large K c) (near W K J) n ≡ value c n closed simple s ⊕ r) × (OnSide (large K c) n (near W K J) → ⊥)))
       by-p T T+ f apart r ch = (
         f .N +ℤ T,
-        (en .0,
-        (from-sum (odd (large K c) (near W K J) n) (value c n closed simple s) r false
-            (ap (λ z. odd (large K c) (near W K J) n ⊕ z) (sym (value-p K (en .0) K+))
-            ∙ pair J p f K (en .1 .0) r false (ch K (en .0) K+) (changes-turned (near W K J) (near W K p) (out K q) (out K W) false (apart-changes (near W K J) (near W K p) (out K q) (out K W) (apart K (en .0) K+))))
-        ∙ ap (λ z. z ⊕ r) (⊕-false (value c n closed simple s)),
-        off-all p f K (en .1 .0) K+)),
+        (
+          en .0,
+          (
+            from-sum (odd (large K c) (near W K J) n) (value c n closed simple s) r false
+                (ap (λ z. odd (large K c) (near W K J) n ⊕ z) (sym (value-p K (en .0) K+))
+                ∙ pair J p f K (en .1 .0) r false (ch K (en .0) K+) (changes-turned (near W K J) (near W K p) (out K q) (out K W) false (apart-changes (near W K J) (near W K p) (out K q) (out K W) (apart K (en .0) K+))))
+                ∙ ap (λ z. z ⊕ r) (⊕-false (value c n closed simple s)),
+            off-all p f K (en .1 .0) K+,
+          ),
+        ),
       )
         where
           K : ℤ

@@ -200,7 +200,10 @@ pub record Inner (Q a b : Point) : Type 0 where
 
 pub inner-turned : {Q a b : Point} → Inner Q a b → Inner Q b a
 inner-turned {Q} {a} {b} i = record {
-  k = i .m; m = i .k; k+ = i .m+; m+ = i .k+;
+  k = i .m;
+  m = i .k;
+  k+ = i .m+;
+  m+ = i .k+;
   mean-x = ring1 (i .k ∷ i .m ∷ a .x ∷ b .x ∷ Q .x ∷ []) (v 1 :* (v 3 :- v 4) :+ v 0 :* (v 2 :- v 4)) nil (con (pos 1)) (v 0 :* (v 2 :- v 4) :+ v 1 :* (v 3 :- v 4)) nil (i .mean-x) refl;
   mean-y = ring1 (i .k ∷ i .m ∷ a .y ∷ b .y ∷ Q .y ∷ []) (v 1 :* (v 3 :- v 4) :+ v 0 :* (v 2 :- v 4)) nil (con (pos 1)) (v 0 :* (v 2 :- v 4) :+ v 1 :* (v 3 :- v 4)) nil (i .mean-y) refl;
 }

@@ -41,6 +41,9 @@ pub mod CentreTest
 pub mod CentreSight
 pub mod CentreMirror
 pub mod Way
+pub mod Signs
+pub mod Barred
+pub mod FreeSight
 pub mod OneLook
 pub mod Change
 pub mod Value

@@ -283,8 +283,11 @@ module _ (hi : ℕ → Bool) (X : ℕ → ℤ) where
           r-is = ap (λ w. right w n) (sym xk) ∙ ranks k hk ak
 
       next-level : (z : ℤ) → Level z → Level (z -ℤ pos 1)
-      next-level z l = record { number = num-next; weight = subst (λ w. w ≤ℤ pos 0) (sym (mass-step z n)) (sub-le (by-ring (mass z n ∷ num (z -ℤ pos 1) n ∷ []) Nonneg (nil :- v 0 :+ (nil :- v 1)) (nil :- (v 0 :+ v 1)) refl
-          (nonneg-add (le-sub (l .weight)) (le-sub (subst (λ w. w ≤ℤ pos 0) (sym num-next) (neg-low (right (z -ℤ pos 1) n))))))) }
+      next-level z l = record {
+        number = num-next;
+        weight = subst (λ w. w ≤ℤ pos 0) (sym (mass-step z n)) (sub-le (by-ring (mass z n ∷ num (z -ℤ pos 1) n ∷ []) Nonneg (nil :- v 0 :+ (nil :- v 1)) (nil :- (v 0 :+ v 1)) refl
+            (nonneg-add (le-sub (l .weight)) (le-sub (subst (λ w. w ≤ℤ pos 0) (sym num-next) (neg-low (right (z -ℤ pos 1) n)))))));
+      }
         where
           num-next : num (z -ℤ pos 1) n ≡ negℤ (bz (right (z -ℤ pos 1) n))
           num-next = next-number z (l .number) (step z n (le-refl n))

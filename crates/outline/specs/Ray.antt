@@ -116,13 +116,16 @@ module _ (W I J e : Point) (K : ℤ) (K+ : Positive K) (T+ : Positive (turn W I 
   pub ray-apart : Beyond (turn W I e) (turn W e J) → Shared (near W K I) (near W K J) (out K e) (out K W) → ⊥
   ray-apart (behind hx hy) s = one-side (inl (
     subst Positive (at-e W I J e K) (by-ring (turn W I J ∷ K ∷ turn W I e ∷ turn W e J ∷ []) Positive (v 0 :+ v 1 :* (neg (v 2) :+ neg (v 3))) (v 0 :- v 1 :* (v 2 :+ v 3)) refl (positive-add T+ (nonneg-mul (positive-nonneg K+) (nonneg-add hx hy)))),
-    subst Positive (at-W W I J e K) T+)) s
+    subst Positive (at-W W I J e K) T+,
+  )) s
   ray-apart (before hx hy) s = one-side (inl (
     subst Positive (from-W W I J e K) (positive-mul K+ (anti+ W I e hx)),
-    subst Positive (from-W W J I e K) (positive-mul K+ hy))) (turned-first (exchanged s))
+    subst Positive (from-W W J I e K) (positive-mul K+ hy),
+  )) (turned-first (exchanged s))
   ray-apart (after hx hy) s = one-side (inl (
     subst Positive (to-W W I J e K) (positive-mul K+ hx),
-    subst Positive (to-W W J I e K) (positive-mul K+ (anti+ W e J hy)))) (exchanged s)
+    subst Positive (to-W W J I e K) (positive-mul K+ (anti+ W e J hy)),
+  )) (exchanged s)
 
   pub ray-thru : Positive (turn W I e) → Positive (turn W e J) → turn W I J ≤ℤ K → Thru (near W K I) (near W K J) (out K e) (out K W)
   ray-thru hx hy h = record {
@@ -136,7 +139,10 @@ module _ (W I J e : Point) (K : ℤ) (K+ : Positive K) (T+ : Positive (turn W I 
 -- ---- the near point of a side from W lies between its ends
 pub near-inner : (W q : Point) (K : ℤ) → Positive (K -ℤ pos 1) → Inner (near W K q) (out K W) (out K q)
 near-inner W q K h = record {
-  k = K -ℤ pos 1; m = pos 1; k+ = h; m+ = positive-pos 0;
+  k = K -ℤ pos 1;
+  m = pos 1;
+  k+ = h;
+  m+ = positive-pos 0;
   mean-x = ax (W .x) (q .x);
   mean-y = ax (W .y) (q .y);
 }

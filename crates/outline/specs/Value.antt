@@ -105,7 +105,10 @@ grown-length K a b K+ h = by-ring (K ∷ a .x ∷ a .y ∷ b .x ∷ b .y ∷ [])
 
 pub inner-grown : (K : ℤ) (Q a b : Point) → Inner Q a b → Inner (out K Q) (out K a) (out K b)
 inner-grown K Q a b i = record {
-  k = i .k; m = i .m; k+ = i .k+; m+ = i .m+;
+  k = i .k;
+  m = i .m;
+  k+ = i .k+;
+  m+ = i .m+;
   mean-x = ax (Q .x) (a .x) (b .x) (i .mean-x);
   mean-y = ax (Q .y) (a .y) (b .y) (i .mean-y);
 }
@@ -116,7 +119,10 @@ inner-grown K Q a b i = record {
 -- half way, in a drawing twice as large
 pub inner-half : (a b : Point) → Inner (sum2 a b) (out (pos 2) a) (out (pos 2) b)
 inner-half a b = record {
-  k = pos 1; m = pos 1; k+ = positive-pos 0; m+ = positive-pos 0;
+  k = pos 1;
+  m = pos 1;
+  k+ = positive-pos 0;
+  m+ = positive-pos 0;
   mean-x = ax (a .x) (b .x);
   mean-y = ax (a .y) (b .y);
 }
@@ -138,8 +144,8 @@ module _ (c : ℕ → Point) (n : ℕ) (closed : c n ≡ c 0) (a b : Point) (ste
       sym (odd-scale (large K c) (pos 2) Q (positive-pos 1) n)
       ∙ ap (λ d. odd d (out (pos 2) Q) n) (fun-ext (λ m. at (c m)))
       ∙ same-value (pos 2 *ℤ K) (positive-mul (positive-pos 1) K+) (out (pos 2) Q) (out K (sum2 a b))
-          (subst (λ a. Inner (out (pos 2) Q) a (out (pos 2 *ℤ K) b)) (at a) (subst (λ b. Inner (out (pos 2) Q) (out (pos 2) (out K a)) b) (at b) (inner-grown (pos 2) Q (out K a) (out K b) i)))
-          (subst (λ a. Inner (out K half) a (out (pos 2 *ℤ K) b)) (at′ a) (subst (λ b. Inner (out K half) (out K (out (pos 2) a)) b) (at′ b) (inner-grown K half (out (pos 2) a) (out (pos 2) b) (inner-half a b))))
+      (subst (λ a. Inner (out (pos 2) Q) a (out (pos 2 *ℤ K) b)) (at a) (subst (λ b. Inner (out (pos 2) Q) (out (pos 2) (out K a)) b) (at b) (inner-grown (pos 2) Q (out K a) (out K b) i)))
+      (subst (λ a. Inner (out K half) a (out (pos 2 *ℤ K) b)) (at′ a) (subst (λ b. Inner (out K half) (out K (out (pos 2) a)) b) (at′ b) (inner-grown K half (out (pos 2) a) (out (pos 2) b) (inner-half a b))))
       ∙ ap (λ d. odd d (out K (sum2 a b)) n) (sym (fun-ext (λ m. at′ (c m))))
       ∙ odd-scale (large (pos 2) c) K (sum2 a b) K+ n
     where
