@@ -6,8 +6,8 @@ use mathlib.Core.List.{List}
 use Prim.Native.Nat.{ℕ, _<_}
 use lib.IntN.{ℤ, pos}
 use lib.Signed.{_≤ℤ_, _<ℤ_}
-use Rattle.whole.specs.Ring.{_:-_, _:*_, neg, ring1, ring2}
-use Rattle.whole.specs.Order.{Sign, plus, nought, minus, sign, below, zero-cancel, ≤ℤ-total}
+use Rattle.whole.specs.Ring.{ring1}
+use Rattle.whole.specs.Order.{Sign, plus, nought, minus, sign, below, ≤ℤ-total}
 use Rattle.outline.specs.Drawing.{Point, Shared, Turn, Simple, corner, corners, after, EndsAt, Angle, Beside}
 use Rattle.outline.specs.Drawing.{Sees}
 use Rattle.outline.specs.Segments.{exchanged, turned-second, only-first, only-second, one-side, Dot}
@@ -17,13 +17,14 @@ use Rattle.outline.specs.Against.{aside, aside-right}
 use Rattle.outline.specs.Round.{next-below}
 use Rattle.outline.specs.Seeing.{Passes, OnlyCorner, one-end, beside-back, clear-sight, sees-of}
 use Rattle.outline.specs.Unbroken.{not-all}
-use Rattle.outline.specs.Spell.{A, B, C, D, O, I, env4, TurnE, DotE}
+use Rattle.outline.specs.Spell.{A, B, C, O, I, env4, TurnE}
 use Rattle.outline.specs.Placed.{On, on-turn}
 use Rattle.outline.specs.Stretch.{Opposite}
 use Rattle.outline.specs.CentreTest.{apart-length, corners-apart}
 use Rattle.outline.specs.CentreMirror.{dot-on}
 use Rattle.outline.specs.Way.{FreeOf, Free}
 use Rattle.outline.specs.Signs.{plus-off, minus-off}
+use Rattle.outline.specs.Directions.{all-in-line}
 use Rattle.outline.specs.Barred.{off-side}
 
 -- ---- how two segments ij and ab meet, each with two ends
@@ -37,18 +38,6 @@ lone i j a b ij s on off = go (≤ℤ-total (Dot a i j) (pos 0)) (sign (Turn i j
     go (inr h) (minus k) = absurd (aside-right (below k) on h (exchanged s))
     go (inr h) (nought e) = absurd (off e)
 
--- where both are on the line ij, i and j are on the line ab
-all-in-line : (i j a b : Point) → ¬ (i ≡ j) → Turn i j a ≡ pos 0 → Turn i j b ≡ pos 0 →
-    (Turn a b i ≡ pos 0) × (Turn a b j ≡ pos 0)
-all-in-line i j a b ij e f = (
-  zero-cancel (apart-length i j ij)
-      (ring2 (env4 i j a b) (DotE A B B :* TurnE C D A) O (DotE A B C) (TurnE A B D) O (neg (DotE A B D)) (TurnE A B C)
-      O f e refl),
-  zero-cancel (apart-length i j ij)
-      (ring2 (env4 i j a b) (DotE A B B :* TurnE C D B) O (DotE A B C :- DotE A B B) (TurnE A B D) O
-      (DotE A B B :- DotE A B D) (TurnE A B C) O f e refl),
-)
-
 -- an end of one lies on the other, or a and b lie on the two sides of ij
 abbrev Meets : Point → Point → Point → Point → Type 0
 Meets i j a b = (On a i j ⊎ On b i j) ⊎ ((On i a b ⊎ On j a b) ⊎ Opposite (Turn i j a) (Turn i j b))
@@ -59,8 +48,8 @@ how-met i j a b ij ab s = go (sign (Turn i j a)) (sign (Turn i j b))
     flat : Turn i j a ≡ pos 0 → Turn i j b ≡ pos 0 → Touch i j a b → Meets i j a b
     flat e f (inl (inl h)) = inl (inl (dot-on a i j ij e h))
     flat e f (inl (inr h)) = inl (inr (dot-on b i j ij f h))
-    flat e f (inr (inl h)) = inr (inl (inl (dot-on i a b ab (all-in-line i j a b ij e f .0) h)))
-    flat e f (inr (inr h)) = inr (inl (inr (dot-on j a b ab (all-in-line i j a b ij e f .1) h)))
+    flat e f (inr (inl h)) = inr (inl (inl (dot-on i a b ab (all-in-line i j a b (apart-length i j ij) e f .0) h)))
+    flat e f (inr (inr h)) = inr (inl (inr (dot-on j a b ab (all-in-line i j a b (apart-length i j ij) e f .1) h)))
 
     only-a : Turn i j a ≡ pos 0 → ¬ (Turn i j b ≡ pos 0) → Meets i j a b
     only-a e n = inl (inl (lone i j a b ij (turned-second s) e n))

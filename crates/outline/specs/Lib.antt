@@ -42,6 +42,13 @@ pub mod CentreSight
 pub mod CentreMirror
 pub mod Way
 pub mod Signs
+pub mod TruthSums
+pub mod Directions
+pub mod Inner
+pub mod SideChanges
+pub mod AllChanges
+pub mod Rising
+pub mod InnerChanges
 pub mod Barred
 pub mod FreeSight
 pub mod OneLook
