@@ -49,6 +49,10 @@ TurnE a b c = (b .x :- a .x) :* (c .y :- a .y) :- (b .y :- a .y) :* (c .x :- a .
 abbrev pub DotE : PointE → PointE → PointE → E
 DotE z u w = (u .x :- z .x) :* (w .x :- z .x) :+ (u .y :- z .y) :* (w .y :- z .y)
 
+-- p times as far out
+abbrev pub outE : PointE → PointE
+outE a = record { x = P :* a .x; y = P :* a .y }
+
 -- r times a coordinate of the point of a segment that p and r name; the segment's ends have s and t there
 abbrev pub At : E → E → E → E → E
 At r s p t = r :* s :+ p :* (t :- s)
