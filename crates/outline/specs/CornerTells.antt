@@ -40,12 +40,12 @@ pub data Verdict (l : Bool) (A : Type 0) (o : Bool) : Type 0 where
   within : A → o ≡ l → Verdict l A o
   without : ¬ A → o ≡ not l → Verdict l A o
 
--- close to corner t, on the way from it to J
-pub record Close (c : ℕ → Point) (n s t : ℕ) (l : Bool) (J : Point) : Type 0 where
+-- close to the corner W between p and q, on the way from it to J
+pub record Close (c : ℕ → Point) (n : ℕ) (l : Bool) (p W q J : Point) : Type 0 where
   pub K : ℤ
   pub K-big : Positive (K -ℤ pos 1)
-  pub told : Verdict l (InsideAngle (c s) (c t) (c (suc t)) J) (odd (large K c) (near (c t) K J) n)
-  pub on-no-side : ¬ OnSide (large K c) n (near (c t) K J)
+  pub told : Verdict l (InsideAngle p W q J) (odd (large K c) (near W K J) n)
+  pub on-no-side : ¬ OnSide (large K c) n (near W K J)
 
 -- ---- the angle at W, by turns at W
 module _ (p W q J : Point) where
@@ -78,11 +78,11 @@ not-folded : (W J q p : Point) → Positive (Dot W J J) → Away W J q → Away 
 not-folded W J q p long off-q off-p turns e f =
     positive-not (positive-mul long (turns (ring1 (env4 W q p p) (TurnE A B C) O I (TurnE B C A) O
     (all-in-line W J q p long e f .0) refl)))
-    (by-ring-from e (positive-nonneg (positive-mul (off-q e) (off-p f))))
+    (product e (positive-nonneg (positive-mul (off-q e) (off-p f))))
   where
-    by-ring-from : Turn W J q ≡ pos 0 → Nonneg (negℤ (Dot W J q) *ℤ negℤ (Dot W J p)) →
+    product : Turn W J q ≡ pos 0 → Nonneg (negℤ (Dot W J q) *ℤ negℤ (Dot W J p)) →
         Nonneg (negℤ (Dot W J J *ℤ negℤ (Dot W q p)))
-    by-ring-from e h =
+    product e h =
         subst Nonneg
         (ring1 (env4 W J q p) (neg (DotE A B C) :* neg (DotE A B D)) (neg (DotE A B B :* neg (DotE A C D)))
         (neg (TurnE A B D)) (TurnE A B C) O e refl) h
@@ -103,6 +103,9 @@ module _ (c : ℕ → Point) (n s t : ℕ) (here : Corner c n s t) (J : Point) (
 
   abbrev l : Bool
   l = left c n t
+
+  abbrev Closely : Type 0
+  Closely = Close c n l p W q J
 
   abbrev Told : ℤ → Type 0
   Told K = Verdict l Inside (close c n s t here K J)
@@ -126,7 +129,7 @@ module _ (c : ℕ → Point) (n s t : ℕ) (here : Corner c n s t) (J : Point) (
 
   -- K from two numbers that it has to reach
   chosen : (z : Point) (f : Far c n s t here J z n) (T : ℤ) → Positive T →
-      ((K : ℤ) → Positive (K -ℤ pos 1) → f .N ≤ℤ K → T ≤ℤ K → Told K) → Close c n s t l J
+      ((K : ℤ) → Positive (K -ℤ pos 1) → f .N ≤ℤ K → T ≤ℤ K → Told K) → Closely
   chosen z f T T+ told = record {
     K = f .N +ℤ T;
     K-big = big;
@@ -161,7 +164,7 @@ module _ (c : ℕ → Point) (n s t : ℕ) (here : Corner c n s t) (J : Point) (
   nought-behind e = subst (λ z. Nonneg (negℤ z)) (sym e) (nonneg-pos 0)
 
   -- ---- J left of the side to q
-  left-case : Positive (Turn W q J) → (f : Far c n s t here J q n) → Close c n s t l J
+  left-case : Positive (Turn W q J) → (f : Far c n s t here J q n) → Closely
   left-case A f = chosen q f (Turn W q J) A (λ K big h k. go K big h k (sign (Turn W q p)) (sign (Turn W p J)))
     where
       go : (K : ℤ) → Positive (K -ℤ pos 1) → f .N ≤ℤ K → Turn W q J ≤ℤ K → Sign (Turn W q p) → Sign (Turn W p J) →
@@ -202,7 +205,7 @@ module _ (c : ℕ → Point) (n s t : ℕ) (here : Corner c n s t) (J : Point) (
               (passed (behind (nought-behind x) (positive-nonneg (left-of-other W q p J x (here .turns x) A))))
 
   -- ---- J right of it
-  right-case : Positive (Turn W J q) → (f : Far c n s t here J q n) → Close c n s t l J
+  right-case : Positive (Turn W J q) → (f : Far c n s t here J q n) → Closely
   right-case A f = chosen q f (Turn W J q) A (λ K big h k. go K big h k (sign (Turn W J p)) (sign (Turn W p q)))
     where
       go : (K : ℤ) → Positive (K -ℤ pos 1) → f .N ≤ℤ K → Turn W J q ≤ℤ K → Sign (Turn W J p) → Sign (Turn W p q) →
@@ -255,7 +258,7 @@ module _ (c : ℕ → Point) (n s t : ℕ) (here : Corner c n s t) (J : Point) (
               without (sharp z) (passed (behind (nought-behind x) (positive-nonneg z)))
 
   -- ---- J on the line of the side to q, away from it: by way of the side from p
-  line-case : Turn W q J ≡ pos 0 → Far c n s t here J p n → Sign (Turn W p J) → Close c n s t l J
+  line-case : Turn W q J ≡ pos 0 → Far c n s t here J p n → Sign (Turn W p J) → Closely
   line-case e f = at
     where
       e′ : Turn W J q ≡ pos 0
@@ -264,7 +267,7 @@ module _ (c : ℕ → Point) (n s t : ℕ) (here : Corner c n s t) (J : Point) (
       left-p : value c n s ⊕ rise p W ≡ l
       left-p = ap (λ w. value c n s ⊕ rise p w) (sym (here .joined)) ∙ same-left c n s t here
 
-      at : Sign (Turn W p J) → Close c n s t l J
+      at : Sign (Turn W p J) → Closely
       at (plus a) =
           let x = right-of-other W J q p e′ (off-q e′) a in
           chosen p f (Turn W p J) a (λ K big h k.
@@ -286,10 +289,10 @@ module _ (c : ℕ → Point) (n s t : ℕ) (here : Corner c n s t) (J : Point) (
           ∙ left-p))
       at (nought a) = absurd (not-folded W J q p long off-q off-p (here .turns) e′ (in-line-back W p J a))
 
-  pub corner-tells : Close c n s t (left c n t) J
+  pub corner-tells : Close c n (left c n t) (c s) (c t) (c (suc t)) J
   corner-tells = go (sign (Turn W q J))
     where
-      go : Sign (Turn W q J) → Close c n s t l J
+      go : Sign (Turn W q J) → Closely
       go (plus h) = left-case h (far-all c n s t here J q)
       go (minus h) = right-case (right-left W q J h) (far-all c n s t here J q)
       go (nought e) = line-case e (far-all c n s t here J p) (sign (Turn W p J))

@@ -56,5 +56,7 @@ pub mod CornerSides
 pub mod CornerTells
 pub mod Barred
 pub mod FreeSight
+pub mod AtCorner
+pub mod HalfWay
 pub mod Affine
 pub mod Moves
