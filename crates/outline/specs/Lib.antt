@@ -55,6 +55,8 @@ pub mod Ray
 pub mod CornerSides
 pub mod CornerTells
 pub mod Barred
+pub mod Sums
+pub mod OneRow
 pub mod FreeSight
 pub mod AtCorner
 pub mod HalfWay
