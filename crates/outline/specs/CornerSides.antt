@@ -17,8 +17,8 @@ use native.Mathlib.Decide.{ℕ-discrete}
 use lib.IntN.{ℤ, pos, negℤ, _+ℤ_, _-ℤ_, _*ℤ_, *ℤ-zero}
 use lib.Signed.{_≤ℤ_}
 use Rattle.whole.specs.Ring.{v, _:+_, _:-_, _:*_, neg, ring, ring1, by-ring}
-use Rattle.whole.specs.Order.{Nonneg, Positive, Sign, plus, nought, minus, sign, positive-pos, positive-nonneg}
-use Rattle.whole.specs.Order.{positive-add, sub-le, ≤ℤ-trans}
+use Rattle.whole.specs.Order.{Positive, Sign, plus, nought, minus, sign, positive-pos, positive-nonneg}
+use Rattle.whole.specs.Order.{positive-add, ≤ℤ-trans}
 use Rattle.outline.specs.Drawing.{Point, Shared, Turn}
 use Rattle.outline.specs.Segments.{Dot}
 use Rattle.outline.specs.Spell.{A, B, C, O, I, env4, TurnE, DotE}
@@ -28,6 +28,7 @@ use Rattle.outline.specs.ParitySide.{⊕-same}
 use Rattle.outline.specs.Between.{last}
 use Rattle.outline.specs.EveryPoint.{Simple}
 use Rattle.outline.specs.Near.{near, Off, off-side}
+use Rattle.outline.specs.Signs.{first-part, second-part}
 use Rattle.outline.specs.TruthSums.{not-not, ⊕-across}
 use Rattle.outline.specs.Directions.{Away, right-left}
 use Rattle.outline.specs.Inner.{Inner, inner-turned, inner-line, inner-near}
@@ -47,13 +48,6 @@ pub record Corner (c : ℕ → Point) (n s t : ℕ) : Type 0 where
   pub joined : c (suc s) ≡ c t
   pub off-others : (m : ℕ) → m < n → ¬ (m ≡ s) → ¬ (m ≡ t) → ¬ On (c t) (c m) (c (suc m))
   pub turns : Away (c t) (c (suc t)) (c s)
-
--- ---- a sum is no less than its parts
-pub first-part : (a b : ℤ) → Positive b → a ≤ℤ (a +ℤ b)
-first-part a b h = sub-le (by-ring (a ∷ b ∷ []) Nonneg (v 1) (v 0 :+ v 1 :- v 0) refl (positive-nonneg h))
-
-pub second-part : (a b : ℤ) → Positive a → b ≤ℤ (a +ℤ b)
-second-part a b h = sub-le (by-ring (a ∷ b ∷ []) Nonneg (v 0) (v 0 :+ v 1 :- v 1) refl (positive-nonneg h))
 
 -- ---- a side K times as far out
 rises-out : (K : ℤ) (a b : Point) → Positive K → {e : Bool} → Rises a b e → Rises (out K a) (out K b) e

@@ -24,7 +24,7 @@ use Rattle.outline.specs.Placed.{On, on-turn, touch-meets}
 use Rattle.outline.specs.Parity.{_⊕_, odd, out, large, OnSide}
 use Rattle.outline.specs.ParitySide.{⊕-no}
 use Rattle.outline.specs.Near.{near}
-use Rattle.outline.specs.Signs.{plus-off, both-signs}
+use Rattle.outline.specs.Signs.{plus-off, both-signs, first-part, second-part}
 use Rattle.outline.specs.TruthSums.{⊕-yes, ⊕-not, not-not, ⊕-solve}
 use Rattle.outline.specs.Directions.{right-left, left-right, in-line-back, turn-at, Away, left-of-other}
 use Rattle.outline.specs.Directions.{right-of-other, all-in-line}
@@ -32,7 +32,7 @@ use Rattle.outline.specs.Rising.{rise}
 use Rattle.outline.specs.SideChanges.{Changes, changes-back, changes-turned, apart-changes, thru-changes}
 use Rattle.outline.specs.Value.{value, left}
 use Rattle.outline.specs.Ray.{above-one, Beyond, behind, before-I, past-J, ray-apart, ray-thru, ray-off}
-use Rattle.outline.specs.CornerSides.{Corner, first-part, second-part, close, Far, far-all, settled, close-q}
+use Rattle.outline.specs.CornerSides.{Corner, close, Far, far-all, settled, close-q}
 use Rattle.outline.specs.CornerSides.{close-p, q-left, q-right, p-left, p-right, same-left}
 
 -- o is l where A holds, and not l where it does not

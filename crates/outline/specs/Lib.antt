@@ -57,8 +57,15 @@ pub mod CornerTells
 pub mod Barred
 pub mod Sums
 pub mod OneRow
+pub mod CommonHeight
+pub mod HalfHeight
+pub mod RowParts
+pub mod AreaByRows
 pub mod FreeSight
 pub mod AtCorner
 pub mod HalfWay
+pub mod LeftIn
+pub mod TwoKinds
+pub mod Outside
 pub mod Affine
 pub mod Moves

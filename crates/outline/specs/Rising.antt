@@ -34,7 +34,7 @@ less-back s t h = by-ring (s ∷ t ∷ []) Positive (neg (v 1 :- v 0)) (v 0 :- v
 more-back : (s t : ℤ) → Positive (t -ℤ s) → Positive (negℤ (s -ℤ t))
 more-back s t h = by-ring (s ∷ t ∷ []) Positive (v 1 :- v 0) (neg (v 0 :- v 1)) refl h
 
-none-back : (s t : ℤ) → t -ℤ s ≡ pos 0 → s -ℤ t ≡ pos 0
+pub none-back : (s t : ℤ) → t -ℤ s ≡ pos 0 → s -ℤ t ≡ pos 0
 none-back s t e = ring1 (s ∷ t ∷ []) (v 0 :- v 1) O (neg I) (v 1 :- v 0) O e refl
 
 pub rises : (a b : Point) → Positive (Dot a b b) → Rises a b (rise a b)

@@ -1,10 +1,12 @@
--- A whole number has one sign, and comparisons as truth values.
-use mathlib.Core.Path.{_≡_, sym, subst}
+-- A whole number has one sign; a sum is no less than its parts; comparisons as truth values.
+use mathlib.Core.Path.{_≡_, refl, sym, subst}
 use mathlib.Core.Bool.{true, false, not}
+use mathlib.Core.List.{[], _∷_}
 use lib.Dec.{T}
-use lib.IntN.{ℤ, pos, negℤ}
+use lib.IntN.{ℤ, pos, negℤ, _+ℤ_}
 use lib.Signed.{_≤ℤ_, _<ℤ_, ltZ, ltZ-no, <ℤ-irrefl, clashℤ}
-use Rattle.whole.specs.Order.{Positive, positive-not, positive-nonneg}
+use Rattle.whole.specs.Ring.{v, _:+_, _:-_, by-ring}
+use Rattle.whole.specs.Order.{Nonneg, Positive, positive-not, positive-nonneg, sub-le}
 use Rattle.outline.specs.Tells.{if-yes, is-yes, is-no}
 use Rattle.outline.specs.Tests.{lt-tells}
 
@@ -16,6 +18,13 @@ minus-off h e = <ℤ-irrefl (subst (λ z. Positive (negℤ z)) e h)
 
 pub both-signs : {X : Type 0} {z : ℤ} → Positive z → Positive (negℤ z) → X
 both-signs h k = positive-not h (positive-nonneg k)
+
+-- ---- a sum is no less than its parts
+pub first-part : (a b : ℤ) → Positive b → a ≤ℤ (a +ℤ b)
+first-part a b h = sub-le (by-ring (a ∷ b ∷ []) Nonneg (v 1) (v 0 :+ v 1 :- v 0) refl (positive-nonneg h))
+
+pub second-part : (a b : ℤ) → Positive a → b ≤ℤ (a +ℤ b)
+second-part a b h = sub-le (by-ring (a ∷ b ∷ []) Nonneg (v 0) (v 0 :+ v 1 :- v 1) refl (positive-nonneg h))
 
 -- ---- a < b
 pub less : (a b : ℤ) → a <ℤ b → ltZ a b ≡ true
