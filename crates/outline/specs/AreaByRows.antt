@@ -21,8 +21,9 @@ use Rattle.outline.specs.Rising.{rises}
 use Rattle.outline.specs.Met.{met}
 use Rattle.outline.specs.Value.{left, side-unmet, value-of}
 use Rattle.outline.specs.Sums.{sum, sum-same, sum-nought, sum-add, sum-times, sum-steps, Bounds, bounds, upward}
-use Rattle.outline.specs.OneRow.{through, way, odd-right, row}
-use Rattle.outline.specs.CommonHeight.{Divides, Common, common}
+use Rattle.outline.specs.RowStep.{through, way, odd-right}
+use Rattle.outline.specs.OneRow.{row}
+use Rattle.outline.specs.CommonHeight.{Common, common}
 use Rattle.outline.specs.HalfHeight.{scale, row-height, place, crosses-row, inner-row, rises-row}
 use Rattle.outline.specs.RowParts.{part, part-step, part-low, part-high}
 

@@ -2,7 +2,7 @@
 -- along neither side has that value exactly where it lies inside the corner's angle.
 use mathlib.Core.Path.{_≡_, refl, sym, _∙_, ap, subst}
 use mathlib.Core.Bool.{Bool}
-use mathlib.Core.Logic.{_⊎_, inl, inr}
+use mathlib.Core.Logic.{inl, inr}
 use mathlib.Core.List.{List}
 use Prim.Native.Nat.{ℕ, zero, suc, _<_}
 use native.Mathlib.Omega.{arith}
@@ -18,7 +18,8 @@ use Rattle.outline.specs.CentreTest.{apart-length, simple-read}
 use Rattle.outline.specs.Barred.{off-side}
 use Rattle.outline.specs.Directions.{Away, away-of, length-back}
 use Rattle.outline.specs.Value.{left}
-use Rattle.outline.specs.CornerSides.{Corner, same-left}
+use Rattle.outline.specs.NearCorner.{Corner}
+use Rattle.outline.specs.CornerSides.{same-left}
 use Rattle.outline.specs.CornerTells.{Close, corner-tells}
 
 -- the value left of side k
@@ -74,7 +75,8 @@ module _ (d : List ℤ) (simple : Simple d) where
       simple = simple-read d simple;
       s-below = before-below;
       t-below = hi;
-      two = λ e. simple .two-ends i hi (ap (corner d) (sym (ap (next (corners d)) (sym e) ∙ next-prev (corners d) i hi)));
+      two = λ e. simple .two-ends i hi
+          (ap (corner d) (sym (ap (next (corners d)) (sym e) ∙ next-prev (corners d) i hi)));
       joined = ap (corner d) (next-prev (corners d) i hi) ∙ sym here;
       off-others = others-off;
       turns = subst (λ a. Away a (corner d (after d i)) (round d before)) (sym here)

@@ -1,5 +1,5 @@
--- One whole number that the height of every side divides: in a drawing that many times as large, every side passes each
--- row at a whole place.
+-- One whole number that the height of every side divides: in a drawing that many times as large, every side passes
+-- each row at a whole place.
 use mathlib.Core.Path.{_≡_, refl, sym, subst}
 use mathlib.Core.Bool.{cond}
 use mathlib.Core.Logic.{_⊎_, inl, inr}
@@ -49,12 +49,8 @@ module _ (y : ℕ → ℤ) where
           z refl)
 
       at : (k : ℕ) → (k < t) ⊎ (k ≡ t) → Divides (cond (eqb k t) e (g .times k *ℤ s)) (height k) (g .D *ℤ s)
-      at k (inl h) =
-          subst (λ b. Divides (cond b e (g .times k *ℤ s)) (height k) (g .D *ℤ s)) (sym (ne-eqb k t (λ z. omega arith)))
-          (old k (g .divides k h))
-      at k (inr h) =
-          subst (λ b. Divides (cond b e (g .times k *ℤ s)) (height k) (g .D *ℤ s)) (sym (eq-eqb k t h))
-          (subst (λ j. Divides e (height j) (g .D *ℤ s)) (sym h) (inr new))
+      at k (inl h) = rw (ne-eqb k t (λ z. omega arith)) (old k (g .divides k h))
+      at k (inr h) = rw (eq-eqb k t h) (subst (λ j. Divides e (height j) (g .D *ℤ s)) (sym h) (inr new))
 
   -- a height of nought asks nothing
   keep : (t : ℕ) → Common y t → height t ≡ pos 0 → Common y (suc t)

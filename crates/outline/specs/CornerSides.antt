@@ -1,53 +1,34 @@
--- At a corner W of a simple closed outline, where side s ends and side t begins: close to W only these two sides count,
--- and the value left of the one is the value left of the other.
+-- At a corner W of a simple closed outline the value left of the side s that ends there is the value left of the side
+-- t that begins there.
 --
---       q                    t goes from W to q, s from p to W; far enough out, that is, close
---        \  t  left          enough to W, no other side meets the segments between near points
---    left \
---   p ---- W
---      s
+--        q
+--  left   \ t
+--          \
+--   p ----- W
+--       s
 use mathlib.Core.Path.{_≡_, refl, sym, _∙_, ap, ap₂, subst}
 use mathlib.Core.Bool.{Bool, true, false, not}
-use mathlib.Core.Logic.{_⊎_, inl, inr}
 use mathlib.Core.List.{[], _∷_}
-use Prim.Native.Nat.{ℕ, zero, suc, _<_, _≤_}
-use native.Mathlib.Omega.{arith}
-use native.Mathlib.Nat.{le-refl, not-suc-le-zero}
-use native.Mathlib.Decide.{ℕ-discrete}
+use Prim.Native.Nat.{ℕ, suc}
 use lib.IntN.{ℤ, pos, negℤ, _+ℤ_, _-ℤ_, _*ℤ_, *ℤ-zero}
 use lib.Signed.{_≤ℤ_}
 use Rattle.whole.specs.Ring.{v, _:+_, _:-_, _:*_, neg, ring, ring1, by-ring}
-use Rattle.whole.specs.Order.{Positive, Sign, plus, nought, minus, sign, positive-pos, positive-nonneg}
-use Rattle.whole.specs.Order.{positive-add, ≤ℤ-trans}
-use Rattle.outline.specs.Drawing.{Point, Shared, Turn}
+use Rattle.whole.specs.Order.{Positive, Sign, plus, nought, minus, sign, positive-pos}
+use Rattle.outline.specs.Drawing.{Point, Turn}
 use Rattle.outline.specs.Segments.{Dot}
 use Rattle.outline.specs.Spell.{A, B, C, O, I, env4, TurnE, DotE}
-use Rattle.outline.specs.Placed.{On}
-use Rattle.outline.specs.Parity.{_⊕_, odd, out, large}
+use Rattle.outline.specs.Parity.{_⊕_, out}
 use Rattle.outline.specs.ParitySide.{⊕-same}
-use Rattle.outline.specs.Between.{last}
-use Rattle.outline.specs.EveryPoint.{Simple}
-use Rattle.outline.specs.Near.{near, Off, off-side}
-use Rattle.outline.specs.Signs.{first-part, second-part}
+use Rattle.outline.specs.Near.{near}
+use Rattle.outline.specs.Signs.{first-part}
 use Rattle.outline.specs.TruthSums.{not-not, ⊕-across}
-use Rattle.outline.specs.Directions.{Away, right-left}
+use Rattle.outline.specs.Directions.{right-left}
 use Rattle.outline.specs.Inner.{Inner, inner-turned, inner-line, inner-near}
 use Rattle.outline.specs.Rising.{Rises, rise, rises, rises-turned, rises-like, rises-once}
-use Rattle.outline.specs.SideChanges.{Changes, changes-back, changes-turned, apart-changes, line-changes}
-use Rattle.outline.specs.AllChanges.{two-changes}
+use Rattle.outline.specs.SideChanges.{Changes, changes-back, changes-turned, line-changes}
 use Rattle.outline.specs.Value.{value, value-of, left, length-out}
+use Rattle.outline.specs.NearCorner.{Corner, close, Far, far-all, settled}
 use Rattle.outline.specs.Ray.{above-one, turn-from, turn-to, from-left, from-right}
-
--- what is asked of the outline there
-pub record Corner (c : ℕ → Point) (n s t : ℕ) : Type 0 where
-  pub closed : c n ≡ c 0
-  pub simple : Simple c n
-  pub s-below : s < n
-  pub t-below : t < n
-  pub two : ¬ (s ≡ t)
-  pub joined : c (suc s) ≡ c t
-  pub off-others : (m : ℕ) → m < n → ¬ (m ≡ s) → ¬ (m ≡ t) → ¬ On (c t) (c m) (c (suc m))
-  pub turns : Away (c t) (c (suc t)) (c s)
 
 -- ---- a side K times as far out
 rises-out : (K : ℤ) (a b : Point) → Positive K → {e : Bool} → Rises a b e → Rises (out K a) (out K b) e
@@ -67,59 +48,6 @@ module _ (c : ℕ → Point) (n s t : ℕ) (here : Corner c n s t) where
   abbrev q : Point
   q = c (suc t)
 
-  -- the parity close to W in the direction of z
-  abbrev pub close : ℤ → Point → Bool
-  close K z = odd (large K c) (near (c t) K z) n
-
-  -- ---- from N on, no other side meets the segment between two near points
-  abbrev Meets : Point → Point → ℕ → ℤ → Type 0
-  Meets y z m K = Shared (near W K y) (near W K z) (out K (c m)) (out K (c (suc m)))
-
-  pub record Far (y z : Point) (k : ℕ) : Type 0 where
-    pub N : ℤ
-    pub N+ : Positive N
-    pub far : (m : ℕ) → m < k → ¬ (m ≡ s) → ¬ (m ≡ t) → (K : ℤ) → N ≤ℤ K →
-        ¬ Shared (near (c t) K y) (near (c t) K z) (out K (c m)) (out K (c (suc m)))
-
-  one-more : (y z : Point) (k : ℕ) → Far y z k → (M : ℤ) → Positive M →
-      (¬ (k ≡ s) → ¬ (k ≡ t) → (K : ℤ) → M ≤ℤ K → ¬ Meets y z k K) → Far y z (suc k)
-  one-more y z k f M M+ g = record {
-    N = f .N +ℤ M;
-    N+ = positive-add (f .N+) (positive-nonneg M+);
-    far = λ m h not-s not-t K big. at m (last m k h) not-s not-t K big;
-  }
-    where
-      at : (m : ℕ) → (m < k) ⊎ (m ≡ k) → ¬ (m ≡ s) → ¬ (m ≡ t) → (K : ℤ) → (f .N +ℤ M) ≤ℤ K → ¬ Meets y z m K
-      at m (inl h) not-s not-t K big = f .far m h not-s not-t K (≤ℤ-trans (first-part (f .N) M M+) big)
-      at m (inr e) not-s not-t K big =
-          subst (λ l. ¬ Meets y z l K) (sym e)
-          (g (λ h. not-s (e ∙ h)) (λ h. not-t (e ∙ h)) K (≤ℤ-trans (second-part (f .N) M (f .N+)) big))
-
-  far-up-to : (y z : Point) (k : ℕ) → k ≤ n → Far y z k
-  far-up-to y z zero h = record { N = pos 1; N+ = positive-pos 0; far = λ m i. absurd (not-suc-le-zero i) }
-  far-up-to y z (suc k) h = go (far-up-to y z k (omega arith)) (ℕ-discrete k s) (ℕ-discrete k t)
-    where
-      go : Far y z k → Dec (k ≡ s) → Dec (k ≡ t) → Far y z (suc k)
-      go f (yes e) u = one-more y z k f (pos 1) (positive-pos 0) (λ not-s. absurd (not-s e))
-      go f (no e) (yes u) = one-more y z k f (pos 1) (positive-pos 0) (λ not-s not-t. absurd (not-t u))
-      go f (no e) (no u) = add (off-side y z W (c k) (c (suc k)) (here .simple .ends k h) (here .off-others k h e u))
-        where
-          add : Off y z W (c k) (c (suc k)) → Far y z (suc k)
-          add g = one-more y z k f (g .M) (g .M+) (λ not-s not-t. g .far)
-
-  pub far-all : (y z : Point) → Far y z n
-  far-all y z = far-up-to y z n (le-refl n)
-
-  -- so the two sides at W settle how the parity changes between two directions
-  pub settled : (y z : Point) (f : Far y z n) (K : ℤ) → f .N ≤ℤ K → (e g : Bool) →
-      Changes (near (c t) K y) (near (c t) K z) (out K (c s)) (out K (c t)) e →
-      Changes (near (c t) K y) (near (c t) K z) (out K (c t)) (out K (c (suc t))) g → close K y ⊕ close K z ≡ e ⊕ g
-  settled y z f K h e g at-s at-t =
-      two-changes (large K c) n (ap (out K) (here .closed)) (near W K y) (near W K z) s t e g (here .s-below)
-      (here .t-below) (here .two)
-      (subst (λ w. Changes (near W K y) (near W K z) (out K p) (out K w) e) (sym (here .joined)) at-s) at-t
-      (λ m i j l. apart-changes (near W K y) (near W K z) (out K (c m)) (out K (c (suc m))) (f .far m i j l K h))
-
   -- ---- the two sides themselves
   q-length : Positive (Dot W q q)
   q-length = here .simple .ends t (here .t-below)
@@ -131,13 +59,13 @@ module _ (c : ℕ → Point) (n s t : ℕ) (here : Corner c n s t) where
     abbrev K+ : Positive K
     K+ = above-one K big
 
-    pub close-q : close K (c (suc t)) ≡ value c n t
+    pub close-q : close c n s t here K (c (suc t)) ≡ value c n t
     close-q = value-of c n (here .closed) (here .simple) K K+ t (here .t-below) (near W K q) (inner-near W q K big)
 
     inner-p : Inner (near W K p) (out K p) (out K W)
     inner-p = inner-turned (inner-near W p K big)
 
-    pub close-p : close K (c s) ≡ value c n s
+    pub close-p : close c n s t here K (c s) ≡ value c n s
     close-p =
         value-of c n (here .closed) (here .simple) K K+ s (here .s-below) (near W K p)
         (subst (λ w. Inner (near W K p) (out K p) (out K w)) (sym (here .joined)) inner-p)
@@ -196,8 +124,8 @@ module _ (c : ℕ → Point) (n s t : ℕ) (here : Corner c n s t) where
       ∙ ⊕-across (value c n s) (value c n t) (rise p W) (rise W q)
       (ap₂ _⊕_ (sym (close-p K big)) (sym (close-q K big)) ∙ go (sign (Turn W q p)))
     where
-      f : Far p q n
-      f = far-all p q
+      f : Far c n s t here p q n
+      f = far-all c n s t here p q
 
       K : ℤ
       K = f .N +ℤ pos 1
@@ -212,15 +140,16 @@ module _ (c : ℕ → Point) (n s t : ℕ) (here : Corner c n s t) where
       not-both true b = refl
       not-both false b = not-not b
 
-      go : Sign (Turn W q p) → close K p ⊕ close K q ≡ rise p W ⊕ rise W q
+      go : Sign (Turn W q p) → close c n s t here K p ⊕ close c n s t here K q ≡ rise p W ⊕ rise W q
       go (plus h) =
-          settled p q f K enough (rise p W) (rise W q) (changes-back (p-left K big q h)) (q-left K big p h)
+          settled c n s t here p q f K enough (rise p W) (rise W q) (changes-back (p-left K big q h))
+          (q-left K big p h)
       go (minus h) =
-          settled p q f K enough (not (rise p W)) (not (rise W q))
+          settled c n s t here p q f K enough (not (rise p W)) (not (rise W q))
           (changes-back (p-right K big q (right-left W q p h))) (q-right K big p (right-left W q p h))
           ∙ not-both (rise p W) (rise W q)
       go (nought e) =
-          settled p q f K enough false false
+          settled c n s t here p q f K enough false false
           (line-changes (near W K p) (near W K q) (out K p) (out K W) (length-out K p W (above-one K big) p-length)
           (inner-line (inner-p K big)) (on-p K big e))
           (line-changes (near W K p) (near W K q) (out K W) (out K q) (length-out K W q (above-one K big) q-length)

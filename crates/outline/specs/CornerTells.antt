@@ -7,33 +7,32 @@
 --   p ---- W
 use mathlib.Core.Path.{_≡_, refl, sym, _∙_, ap, subst}
 use mathlib.Core.Bool.{Bool, true, false, not}
-use mathlib.Core.Logic.{_⊎_, inl, inr}
+use mathlib.Core.Logic.{inl, inr}
 use mathlib.Core.List.{[], _∷_}
-use Prim.Native.Nat.{ℕ, suc, _<_}
+use Prim.Native.Nat.{ℕ, suc}
 use native.Mathlib.Decide.{ℕ-discrete}
-use lib.IntN.{ℤ, pos, negℤ, _+ℤ_, _-ℤ_, _*ℤ_}
+use lib.IntN.{ℤ, pos, negℤ, _+ℤ_, _-ℤ_}
 use lib.Signed.{_≤ℤ_}
-use Rattle.whole.specs.Ring.{v, _:+_, _:-_, _:*_, neg, ring1, by-ring}
+use Rattle.whole.specs.Ring.{v, _:+_, _:-_, by-ring}
 use Rattle.whole.specs.Order.{Nonneg, Positive, Sign, plus, nought, minus, sign, nonneg-pos, positive-nonneg}
-use Rattle.whole.specs.Order.{positive-add, positive-mul, positive-pred, positive-not}
+use Rattle.whole.specs.Order.{positive-add, positive-pred}
 use Rattle.outline.specs.Drawing.{Point, Turn, InsideAngle}
 use Rattle.outline.specs.Segments.{turned-first, Dot}
-use Rattle.outline.specs.Against.{angle-left, angle-other, angle-both, angle-either}
-use Rattle.outline.specs.Spell.{A, B, C, D, O, I, env4, TurnE, DotE}
+use Rattle.outline.specs.Spell.{I}
 use Rattle.outline.specs.Placed.{On, on-turn, touch-meets}
 use Rattle.outline.specs.Parity.{_⊕_, odd, out, large, OnSide}
 use Rattle.outline.specs.ParitySide.{⊕-no}
 use Rattle.outline.specs.Near.{near}
 use Rattle.outline.specs.Signs.{plus-off, both-signs, first-part, second-part}
 use Rattle.outline.specs.TruthSums.{⊕-yes, ⊕-not, not-not, ⊕-solve}
-use Rattle.outline.specs.Directions.{right-left, left-right, in-line-back, turn-at, Away, left-of-other}
-use Rattle.outline.specs.Directions.{right-of-other, all-in-line}
+use Rattle.outline.specs.Directions.{right-left, left-right, in-line-back, Away, left-of-other, right-of-other}
+use Rattle.outline.specs.AngleAt.{in-sharp, in-wide, out-sharp, out-wide, not-folded}
 use Rattle.outline.specs.Rising.{rise}
 use Rattle.outline.specs.SideChanges.{Changes, changes-back, changes-turned, apart-changes, thru-changes}
 use Rattle.outline.specs.Value.{value, left}
 use Rattle.outline.specs.Ray.{above-one, Beyond, behind, before-I, past-J, ray-apart, ray-thru, ray-off}
-use Rattle.outline.specs.CornerSides.{Corner, close, Far, far-all, settled, close-q}
-use Rattle.outline.specs.CornerSides.{close-p, q-left, q-right, p-left, p-right, same-left}
+use Rattle.outline.specs.NearCorner.{Corner, close, Far, far-all, settled}
+use Rattle.outline.specs.CornerSides.{close-q, close-p, q-left, q-right, p-left, p-right, same-left}
 
 -- o is l where A holds, and not l where it does not
 pub data Verdict (l : Bool) (A : Type 0) (o : Bool) : Type 0 where
@@ -46,46 +45,6 @@ pub record Close (c : ℕ → Point) (n : ℕ) (l : Bool) (p W q J : Point) : Ty
   pub K-big : Positive (K -ℤ pos 1)
   pub told : Verdict l (InsideAngle p W q J) (odd (large K c) (near W K J) n)
   pub on-no-side : ¬ OnSide (large K c) n (near W K J)
-
--- ---- the angle at W, by turns at W
-module _ (p W q J : Point) where
-  in-sharp : Positive (Turn W q p) → Positive (Turn W J p) → Positive (Turn W q J) → InsideAngle p W q J
-  in-sharp h a b =
-      angle-left p W q J (subst Positive (sym (turn-at W p q)) h) (subst Positive (sym (turn-at W p J)) a) b
-
-  in-wide : ¬ Positive (Turn W q p) → Positive (Turn W J p) ⊎ Positive (Turn W q J) → InsideAngle p W q J
-  in-wide h a = angle-other p W q J (λ k. h (subst Positive (turn-at W p q) k)) (go a)
-    where
-      go : Positive (Turn W J p) ⊎ Positive (Turn W q J) → Positive (Turn p W J) ⊎ Positive (Turn W q J)
-      go (inl a) = inl (subst Positive (sym (turn-at W p J)) a)
-      go (inr b) = inr b
-
-  out-sharp : Positive (Turn W q p) → ¬ (Positive (Turn W J p) × Positive (Turn W q J)) → ¬ InsideAngle p W q J
-  out-sharp h none i =
-      let b = angle-both p W q J (subst Positive (sym (turn-at W p q)) h) i in
-      none (subst Positive (turn-at W p J) (b .0), b .1)
-
-  out-wide : ¬ Positive (Turn W q p) → ¬ Positive (Turn W J p) → ¬ Positive (Turn W q J) → ¬ InsideAngle p W q J
-  out-wide h a b i = go (angle-either p W q J (λ k. h (subst Positive (turn-at W p q) k)) i)
-    where
-      go : Positive (Turn p W J) ⊎ Positive (Turn W q J) → ⊥
-      go (inl k) = a (subst Positive (turn-at W p J) k)
-      go (inr k) = b k
-
--- J cannot point away from both sides on one line, where these point away from each other
-not-folded : (W J q p : Point) → Positive (Dot W J J) → Away W J q → Away W J p → Away W q p → Turn W J q ≡ pos 0 →
-    ¬ (Turn W J p ≡ pos 0)
-not-folded W J q p long off-q off-p turns e f =
-    positive-not (positive-mul long (turns (ring1 (env4 W q p p) (TurnE A B C) O I (TurnE B C A) O
-    (all-in-line W J q p long e f .0) refl)))
-    (product e (positive-nonneg (positive-mul (off-q e) (off-p f))))
-  where
-    product : Turn W J q ≡ pos 0 → Nonneg (negℤ (Dot W J q) *ℤ negℤ (Dot W J p)) →
-        Nonneg (negℤ (Dot W J J *ℤ negℤ (Dot W q p)))
-    product e h =
-        subst Nonneg
-        (ring1 (env4 W J q p) (neg (DotE A B C) :* neg (DotE A B D)) (neg (DotE A B B :* neg (DotE A C D)))
-        (neg (TurnE A B D)) (TurnE A B C) O e refl) h
 
 module _ (c : ℕ → Point) (n s t : ℕ) (here : Corner c n s t) (J : Point) (long : Positive (Dot (c t) J J))
     (off-q : Away (c t) J (c (suc t))) (off-p : Away (c t) J (c s)) where
@@ -183,7 +142,8 @@ module _ (c : ℕ → Point) (n s t : ℕ) (here : Corner c n s t) (J : Point) (
           crossed : Positive (Turn W q p) → Positive (Turn W p J) → close c n s t here K J ≡ not l
           crossed x y =
               by-q f K big h (rise W q) true (q-left c n s t here K big J A)
-              (changes-back (thru-changes (near W K q) (near W K J) (out K p) (out K W) (ray-thru W q J p K K+ A x y k)))
+              (changes-back
+              (thru-changes (near W K q) (near W K J) (out K p) (out K W) (ray-thru W q J p K K+ A x y k)))
               ∙ ⊕-yes l
 
           wide : ¬ Positive (Turn W q p) → Inside
@@ -275,7 +235,8 @@ module _ (c : ℕ → Point) (n s t : ℕ) (here : Corner c n s t) (J : Point) (
           (by-p f K big h (not (rise p W)) (p-right c n s t here K big J a)
           (changes-turned (near W K J) (near W K p) (out K q) (out K W) false
           (apart-changes (near W K J) (near W K p) (out K q) (out K W)
-          (λ s. ray-apart W p J q K (above-one K big) a (behind (positive-nonneg x) (nought-behind e)) (turned-first s))))
+          (λ s. ray-apart W p J q K (above-one K big) a (behind (positive-nonneg x) (nought-behind e))
+          (turned-first s))))
           ∙ ⊕-not (value c n s) (rise p W) ∙ ap not left-p))
       at (minus a) =
           let b = right-left W p J a in

@@ -1,12 +1,11 @@
--- Directions from one point W, told by turns and products: which of two is left of the other, and which point away from
--- each other.
+-- Directions from one point W, told by turns and products: which of two is left of the other, and which point away
+-- from each other.
 use mathlib.Core.Path.{_≡_, refl, subst}
-use mathlib.Core.Logic.{_⊎_, inl, inr}
-use lib.IntN.{ℤ, pos, negℤ, _*ℤ_}
+use lib.IntN.{pos, negℤ}
 use lib.Signed.{<ℤ-irrefl}
-use Rattle.whole.specs.Ring.{_:+_, _:-_, _:*_, neg, ring, ring1, ring2, by-ring}
-use Rattle.whole.specs.Order.{Nonneg, Positive, Sign, plus, nought, minus, sign, le-sub, positive-not}
-use Rattle.whole.specs.Order.{positive-mul, positive-cancel, zero-cancel}
+use Rattle.whole.specs.Ring.{_:-_, _:*_, neg, ring, ring1, ring2, by-ring}
+use Rattle.whole.specs.Order.{Nonneg, Positive, Sign, plus, nought, minus, sign, le-sub, positive-not, positive-mul}
+use Rattle.whole.specs.Order.{positive-cancel, zero-cancel}
 use Rattle.outline.specs.Drawing.{Point, Turn}
 use Rattle.outline.specs.Segments.{Dot, dot-nonneg}
 use Rattle.outline.specs.Ends.{OnlyEnd}
@@ -39,7 +38,8 @@ pub away-of : (W a b : Point) → Positive (Dot W a a) → Positive (Dot W b b) 
 away-of W a b la lb only e = go (sign (Dot W a b))
   where
     go : Sign (Dot W a b) → Positive (negℤ (Dot W a b))
-    go (plus k) = positive-not k (by-ring (env4 W a b b) Nonneg (O :- DotE A B C) (neg (DotE A B C)) refl (le-sub (only e)))
+    go (plus k) =
+        positive-not k (by-ring (env4 W a b b) Nonneg (O :- DotE A B C) (neg (DotE A B C)) refl (le-sub (only e)))
     go (minus k) = k
     go (nought k) =
         absurd (<ℤ-irrefl (subst Positive

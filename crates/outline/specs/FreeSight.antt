@@ -22,7 +22,7 @@ use Rattle.outline.specs.Placed.{On, on-turn}
 use Rattle.outline.specs.Stretch.{Opposite}
 use Rattle.outline.specs.CentreTest.{apart-length, corners-apart}
 use Rattle.outline.specs.CentreMirror.{dot-on}
-use Rattle.outline.specs.Way.{FreeOf, Free}
+use Rattle.outline.specs.Way.{Free}
 use Rattle.outline.specs.Signs.{plus-off, minus-off}
 use Rattle.outline.specs.Directions.{all-in-line}
 use Rattle.outline.specs.Barred.{off-side}
@@ -140,8 +140,8 @@ module _ (d : List ℤ) (simple : Simple d) (i j : ℕ) (hi : i < corners d) (hj
     other = other-side k hk;
     ends-at-i = λ e. only-at-i d simple i j hi hj apart (λ m h. free m h .no-third) k hk e;
     ends-at-j = λ e. only-first
-        (only-at-i d simple j i hj hi (λ b. apart (beside-back d j i b)) (λ m h o. swap (free m h .no-third (on-turn o)))
-        k hk e);
+        (only-at-i d simple j i hj hi (λ b. apart (beside-back d j i b))
+        (λ m h o. swap (free m h .no-third (on-turn o))) k hk e);
   }
     where
       swap : {X Y : Type 0} → X ⊎ Y → Y ⊎ X

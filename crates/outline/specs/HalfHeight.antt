@@ -11,8 +11,8 @@ use mathlib.Core.List.{List, [], _∷_}
 use lib.IntN.{ℤ, pos, _+ℤ_, _-ℤ_, _*ℤ_}
 use lib.Signed.{_≤ℤ_, _<ℤ_, ltZ}
 use Rattle.whole.specs.Ring.{E, v, _:+_, _:-_, _:*_, neg, ring, ring1, by-ring}
-use Rattle.whole.specs.Order.{Nonneg, Positive, nonneg-pos, positive-pos, nonneg-mul, positive-nonneg, positive-add}
-use Rattle.whole.specs.Order.{positive-mul, positive-pred, le-sub, sub-lt, lt-sub, ≤ℤ-<ℤ-trans, ≤ℤ-total, <ℤ-le}
+use Rattle.whole.specs.Order.{Positive, nonneg-pos, positive-pos, nonneg-mul, positive-add, positive-mul}
+use Rattle.whole.specs.Order.{positive-pred, le-sub, sub-lt, lt-sub, ≤ℤ-<ℤ-trans, ≤ℤ-total, <ℤ-le}
 use Rattle.outline.specs.Drawing.{Point, Turn}
 use Rattle.outline.specs.Spell.{PointE, A, B, O, I, TurnE}
 use Rattle.outline.specs.Parity.{_⊕_, pt, higher, passes, crosses, out}
@@ -21,7 +21,7 @@ use Rattle.outline.specs.ParityRound.{Ltr-scale, ltZ-sub}
 use Rattle.outline.specs.Signs.{plus-off, less, not-less, is-less, is-not-less}
 use Rattle.outline.specs.Inner.{Inner}
 use Rattle.outline.specs.Rising.{Rises, rising, falling, rises-once, none-back}
-use Rattle.outline.specs.OneRow.{both}
+use Rattle.outline.specs.RowStep.{both}
 use Rattle.outline.specs.CommonHeight.{Divides, divided}
 
 abbrev pub scale : ℤ → ℤ
@@ -110,7 +110,8 @@ module _ (D e : ℤ) (a b : Point) (h : ℤ) (D+ : Positive D) (fit : Divides e 
       Ltr (Turn (out (scale D) a) (out (scale D) b) (row-at X)) ≡ ltZ X (place D e a b h)
   up-turn X k =
       ap Ltr (ring1 (ρ X) (TurnE (growE A) (growE B) (record { x = v 7; y = v 4 :* twiceE }))
-      (scaleE :* (B .y :- A .y) :* (placeE :- v 7)) (neg (scaleE :* shareE)) (v 5 :* (B .y :- A .y)) (v 4) (fit-up k) refl)
+      (scaleE :* (B .y :- A .y) :* (placeE :- v 7)) (neg (scaleE :* shareE)) (v 5 :* (B .y :- A .y)) (v 4)
+      (fit-up k) refl)
       ∙ Ltr-scale (scale D *ℤ (b .y -ℤ a .y)) (place D e a b h -ℤ X) (positive-mul scale+ k)
       ∙ sym (ltZ-sub X (place D e a b h))
 

@@ -1,8 +1,8 @@
--- Two corners i and j of a simple drawing with nothing between them: half way the parity is what it is close to i, so it
--- tells whether j lies inside the angle at i, once one knows the value left of the sides.
-use mathlib.Core.Path.{_≡_, refl, sym, _∙_, subst}
+-- Two corners i and j of a simple drawing with nothing between them: half way the parity is what it is close to i, so
+-- it tells whether j lies inside the angle at i, once one knows the value left of the sides.
+use mathlib.Core.Path.{_≡_, refl, subst}
 use mathlib.Core.Bool.{Bool, true}
-use mathlib.Core.Logic.{_⊎_, inl, inr}
+use mathlib.Core.Logic.{inl, inr}
 use mathlib.Core.List.{List}
 use Prim.Native.Nat.{ℕ, suc, _<_}
 use native.Mathlib.Decide.{ℕ-discrete}
@@ -28,7 +28,7 @@ use Rattle.outline.specs.Inner.{inner-half, inner-near}
 use Rattle.outline.specs.Met.{Met, met}
 use Rattle.outline.specs.Value.{half-value, steady-value, clear-steady}
 use Rattle.outline.specs.Ray.{above-one}
-use Rattle.outline.specs.CornerTells.{Verdict, Close}
+use Rattle.outline.specs.CornerTells.{Verdict}
 use Rattle.outline.specs.AtCorner.{left-of, at-corner}
 
 -- the parity half way between corners i and j

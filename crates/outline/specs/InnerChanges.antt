@@ -6,18 +6,18 @@
 --   u  w
 --      |
 --      a
-use mathlib.Core.Path.{_≡_, refl, sym, _∙_, ap, ap₂, subst}
+use mathlib.Core.Path.{_≡_, refl, sym, _∙_, ap₂, subst}
 use mathlib.Core.Bool.{Bool, true, false}
 use mathlib.Core.List.{List, [], _∷_}
-use lib.IntN.{ℤ, pos, _+ℤ_, _-ℤ_, _*ℤ_}
+use lib.IntN.{ℤ, pos, _-ℤ_}
 use lib.Signed.{_≤ℤ_, _<ℤ_, <ℤ-≤ℤ-trans, clashℤ}
 use Rattle.whole.specs.Ring.{E, v, _:+_, _:-_, _:*_, neg, ring1, ring2, by-ring}
-use Rattle.whole.specs.Order.{Nonneg, Positive, nonneg-pos, positive-nonneg, positive-mul, positive-cancel, sub-le, sub-lt}
-use Rattle.whole.specs.Order.{≤ℤ-trans, ≤ℤ-<ℤ-trans, <ℤ-le}
+use Rattle.whole.specs.Order.{Nonneg, Positive, nonneg-pos, positive-nonneg, positive-mul, positive-cancel, sub-le}
+use Rattle.whole.specs.Order.{sub-lt, ≤ℤ-trans, ≤ℤ-<ℤ-trans, <ℤ-le}
 use Rattle.outline.specs.Drawing.{Point, Turn}
 use Rattle.outline.specs.Spell.{A, B, C, D, P, Q, O, I, env, TurnE}
 use Rattle.outline.specs.Parity.{_⊕_, higher, passes, crosses}
-use Rattle.outline.specs.ParitySide.{Ltr, yes-of, no-of, inside, strip}
+use Rattle.outline.specs.ParitySide.{Ltr, yes-of, no-of, inside}
 use Rattle.outline.specs.Signs.{less, not-less}
 use Rattle.outline.specs.Inner.{Inner, weight, inner-turned, inner-line, inner-between, inner-level}
 use Rattle.outline.specs.Rising.{Rises, rising, falling, leftward, rightward}
@@ -121,7 +121,8 @@ module _ (u w a b : Point) (i : Inner w a b) (left : Positive (Turn a b u)) wher
   none-up h k = to-up false (rw (less (u .y) (a .y) h, less (w .y) (a .y) k) (up-two (higher u b) (higher w b)))
 
   one-down : a .y ≤ℤ u .y → w .y <ℤ b .y → Change w u a b true
-  one-down h k = to-down true (rw (not-less (u .y) (a .y) h, less (w .y) (b .y) k) (down-one (higher u b) (higher w a)))
+  one-down h k =
+      to-down true (rw (not-less (u .y) (a .y) h, less (w .y) (b .y) k) (down-one (higher u b) (higher w a)))
 
   none-down : b .y ≤ℤ u .y → b .y ≤ℤ w .y → Change w u a b false
   none-down h k =

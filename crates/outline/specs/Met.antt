@@ -86,7 +86,8 @@ module _ (K : ℤ) (K+ : Positive K) (a b e f u w : Point) (i : Inner u (out K a
 
   high : Positive (s .r *ℤ (sum-u *ℤ sum-w) -ℤ p)
   high =
-      by-ring weights Positive (v 6 :+ ((v 6 :- v 4) :* (v 0 :* SumW :- I) :+ v 4 :* (v 2 :* SumU :- I))) (RE :- PE) refl
+      by-ring weights Positive (v 6 :+ ((v 6 :- v 4) :* (v 0 :* SumW :- I) :+ v 4 :* (v 2 :* SumU :- I))) (RE :- PE)
+      refl
       (positive-add (s .r-above) (nonneg-add
       (nonneg-mul (le-sub (s .p-to)) (positive-pred (positive-mul (i .k+) (weight j))))
       (nonneg-mul (s .p-from) (positive-pred (positive-mul (j .k+) (weight i))))))

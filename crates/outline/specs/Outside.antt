@@ -6,7 +6,7 @@
 --     j   \
 --   p ---- i
 use mathlib.Core.Path.{_≡_, refl, sym, _∙_, ap, subst}
-use mathlib.Core.Bool.{Bool, true, false, not, false≢true}
+use mathlib.Core.Bool.{not, false≢true}
 use mathlib.Core.Logic.{_⊎_, inl, inr}
 use mathlib.Core.List.{List, [], _∷_}
 use Prim.Native.Nat.{ℕ, _<_}
@@ -52,7 +52,8 @@ module _ (p i q j : Point) where
   not-inside (inl (h, inr a)) in-it = both-signs (in-it .left h .1) (left-right i p j a)
   not-inside (inr (h, (a, b))) in-it = in-it .other h (<ℤ-le a, <ℤ-le b)
 
-  -- with i as origin (j . q)(p x j) = (j . j)(p x q) for j along q, and as much for j along p; so the angle is not sharp
+  -- with i as origin (j . q)(p x j) = (j . j)(p x q) for j along q, and as much for j along p; so the angle is not
+  -- sharp
   along-q : Turn i j q ≡ pos 0 → Positive (Dot i j q) → Positive (Turn i p j) → ¬ Positive (Turn p i q)
   along-q e o a h =
       both-signs (subst Positive (turn-at i p q) h) (left-right i p q (positive-cancel (dot-nonneg i j) (subst Positive
@@ -123,7 +124,8 @@ pub out-unseen : (d : List ℤ) (sound : Sound d) (i j : ℕ) → i < corners d 
     ¬ CentreSees d i j
 unfolding near-spot
 out-unseen d sound i j hi hj o s =
-    go (at-corner d (sound .simple) i hi J (elsewhere p W q J (o .out)) (off-q p W q J (o .out)) (off-p p W q J (o .out)))
+    go (at-corner d (sound .simple) i hi J (elsewhere p W q J (o .out)) (off-q p W q J (o .out))
+    (off-p p W q J (o .out)))
   where
     p : Point
     p = corner d (prev (corners d) i)

@@ -8,13 +8,13 @@ use mathlib.Core.Path.{_≡_, refl, _∙_, subst}
 use mathlib.Core.Bool.{Bool}
 use mathlib.Core.Logic.{inl}
 use mathlib.Core.List.{[], _∷_}
-use lib.IntN.{ℤ, pos, negℤ, _+ℤ_, _-ℤ_, _*ℤ_}
+use lib.IntN.{ℤ, pos, negℤ, _-ℤ_, _*ℤ_}
 use lib.Signed.{_≤ℤ_}
-use Rattle.whole.specs.Ring.{E, v, _:+_, _:-_, _:*_, neg, ring, by-ring}
+use Rattle.whole.specs.Ring.{v, _:+_, _:-_, _:*_, neg, ring, by-ring}
 use Rattle.whole.specs.Order.{Nonneg, Positive, nonneg-pos, nonneg-add, nonneg-mul, positive-nonneg, positive-add}
 use Rattle.whole.specs.Order.{positive-mul, positive-pred, positive-not, zero-cancel, le-sub}
 use Rattle.outline.specs.Drawing.{Point, Shared, Turn}
-use Rattle.outline.specs.Segments.{one-side, turned-first, exchanged, Dot, dot-nonneg}
+use Rattle.outline.specs.Segments.{one-side, turned-first, exchanged, dot-nonneg}
 use Rattle.outline.specs.Spell.{PointE, A, B, C, D, P, O, I, env, outE, TurnE, DotE}
 use Rattle.outline.specs.Placed.{On}
 use Rattle.outline.specs.Parity.{out}

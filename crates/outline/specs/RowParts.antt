@@ -1,5 +1,5 @@
--- The places of a side in all rows add up to its part of the doubled area: (b.y - a.y)(a.x + b.x), D times. Row by row,
--- `part u` is what the rows below height u have.
+-- The places of a side in all rows add up to its part of the doubled area: (b.y - a.y)(a.x + b.x), D times. Row by
+-- row, `part u` is what the rows below height u have.
 use mathlib.Core.Path.{_≡_, refl, sym, _∙_, ap, ap₂}
 use mathlib.Core.Bool.{cond}
 use mathlib.Core.Logic.{_⊎_, inl, inr}
@@ -11,7 +11,7 @@ use Rattle.whole.specs.Order.{Nonneg, positive-pos, positive-pred, sub-le, lt-s
 use Rattle.outline.specs.Drawing.{Point}
 use Rattle.outline.specs.Spell.{A, B, O, I}
 use Rattle.outline.specs.Signs.{first-part, less, not-less}
-use Rattle.outline.specs.OneRow.{one-if}
+use Rattle.outline.specs.RowStep.{one-if}
 use Rattle.outline.specs.CommonHeight.{Divides}
 use Rattle.outline.specs.HalfHeight.{place}
 

@@ -77,7 +77,11 @@ module _ {d : List ℤ} {i j k : ℕ} where
   pub ends-at-neither : ¬ (k ≡ i) → ¬ (after d k ≡ i) → ¬ (k ≡ j) → ¬ (after d k ≡ j) →
       (¬ Shared (corner d i) (corner d j) (corner d k) (corner d (after d k))) ↔ Passes d i j k
   ends-at-neither f g h l = (
-    λ n. record { other = λ p q. n; ends-at-i = λ e. absurd (no-end d f g e); ends-at-j = λ e. absurd (no-end d h l e) },
+    λ n. record {
+      other = λ p q. n;
+      ends-at-i = λ e. absurd (no-end d f g e);
+      ends-at-j = λ e. absurd (no-end d h l e);
+    },
     λ p. p .other (no-end d f g) (no-end d h l),
   )
 

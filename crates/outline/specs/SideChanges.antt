@@ -7,8 +7,8 @@
 --     a---\------- b         a side on whose line u and w lie changes nothing.
 --          u
 use mathlib.Core.Path.{_≡_, refl, sym, _∙_, ap, ap₂}
-use mathlib.Core.Bool.{Bool, true, false, not}
-use lib.IntN.{ℤ, pos}
+use mathlib.Core.Bool.{Bool, true, false}
+use lib.IntN.{pos}
 use lib.Signed.{_≤ℤ_}
 use Rattle.whole.specs.Ring.{neg, ring1}
 use Rattle.whole.specs.Order.{Positive}

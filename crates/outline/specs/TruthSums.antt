@@ -18,7 +18,7 @@ not-not true = refl
 not-not false = refl
 
 -- the same on both sides goes out
-pub ⊕-undo : (a b : Bool) → (a ⊕ b) ⊕ b ≡ a
+⊕-undo : (a b : Bool) → (a ⊕ b) ⊕ b ≡ a
 ⊕-undo true true = refl
 ⊕-undo true false = refl
 ⊕-undo false true = refl

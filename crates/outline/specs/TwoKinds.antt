@@ -1,7 +1,7 @@
 -- The two kinds of sight on a sound drawing: strict sight brings a centre's sight (`strict-centre`); and where nothing
 -- stands between two corners, no side across and no third corner on the segment, the two kinds are one (`free-kinds`).
 use mathlib.Core.Path.{_≡_, sym, _∙_, ap, ap₂, subst}
-use mathlib.Core.Bool.{Bool, true, false, false≢true}
+use mathlib.Core.Bool.{Bool, true, false≢true}
 use mathlib.Core.Logic.{_⊎_, inl, inr, _↔_}
 use mathlib.Core.List.{List}
 use Prim.Native.Nat.{ℕ, _<_}
@@ -19,7 +19,6 @@ use Rattle.outline.specs.Way.{Free}
 use Rattle.outline.specs.Barred.{crossed-unseen, grazed-unseen}
 use Rattle.outline.specs.FreeSight.{free-passes, free-sight}
 use Rattle.outline.specs.CornerTells.{Verdict, within, without}
-use Rattle.outline.specs.AtCorner.{left-of}
 use Rattle.outline.specs.HalfWay.{mid, angle-mid, mid-in, in-mid}
 use Rattle.outline.specs.LeftIn.{left-in}
 
@@ -65,7 +64,8 @@ module _ (d : List ℤ) (sound : Sound d) where
     -- the two kinds are one
     pub free-kinds : CentreSees d i j ↔ Sees d i j
     free-kinds = (
-      λ s. let e = centre-mid .0 s in free-sight d (sound .simple) i j hi hj apart free .0 (holds at-i e, holds at-j e),
+      λ s. let e = centre-mid .0 s in
+          free-sight d (sound .simple) i j hi hj apart free .0 (holds at-i e, holds at-j e),
       λ s. centre-mid .1 (shows at-i (free-sight d (sound .simple) i j hi hj apart free .1 s .0)),
     )
 

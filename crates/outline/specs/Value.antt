@@ -37,7 +37,8 @@ inner-out k l q a b i =
     subst (λ z. Inner (out k q) z (out (k *ℤ l) b)) (out-out k l a)
     (subst (λ z. Inner (out k q) (out k (out l a)) z) (out-out k l b) (inner-grown k q (out l a) (out l b) i))
 
-pub length-out : (K : ℤ) (a b : Point) → Positive K → Positive (Dot a b b) → Positive (Dot (out K a) (out K b) (out K b))
+pub length-out : (K : ℤ) (a b : Point) → Positive K → Positive (Dot a b b) →
+    Positive (Dot (out K a) (out K b) (out K b))
 length-out K a b K+ h =
     by-ring (env a b b b K (pos 0) (pos 0)) Positive (P :* (P :* DotE A B B)) (DotE (outE A) (outE B) (outE B)) refl
     (positive-mul K+ (positive-mul K+ h))

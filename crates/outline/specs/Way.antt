@@ -1,5 +1,5 @@
--- What a look along the segment from corner i to corner j finds: side k goes across it, or a third corner k lies on it,
--- or it is free of both.
+-- What a look along the segment from corner i to corner j finds: side k goes across it, or a third corner k lies on
+-- it, or it is free of both.
 --
 --          /                k
 --    i ---/--- j      i ---/ \--- j
