@@ -21,7 +21,7 @@ use Rattle.outline.specs.Rising.{rises}
 use Rattle.outline.specs.Met.{met}
 use Rattle.outline.specs.Value.{left, side-unmet, value-of}
 use Rattle.outline.specs.Sums.{sum, sum-same, sum-nought, sum-add, sum-times, sum-steps, Bounds, bounds, upward}
-use Rattle.outline.specs.RowStep.{through, way, odd-right}
+use Rattle.outline.specs.RowStep.{through, lift, odd-right}
 use Rattle.outline.specs.OneRow.{row}
 use Rattle.outline.specs.CommonHeight.{Common, common}
 use Rattle.outline.specs.HalfHeight.{scale, row-height, place, crosses-row, inner-row, rises-row}
@@ -91,20 +91,20 @@ module _ (c : ℕ → Point) (n : ℕ) (closed : c n ≡ c 0) (simple : Simple c
           (met (scale (g .D)) scale+ (c k) (c (suc k)) (c m) (c (suc m)) z z (inner h k hk fk) (inner h k hk fk)
           (inner-shared z (out (scale (g .D)) (c m)) (out (scale (g .D)) (c (suc m))) on-m)))
 
-  row-low : (h : ℤ) → sum (λ m. way (high h) m *ℤ X h m) n ≤ℤ pos 0
+  row-low : (h : ℤ) → sum (λ m. lift (high h) m *ℤ X h m) n ≤ℤ pos 0
   row-low h = row (high h) (X h) n (distinct h) (ranks h) (ap (λ a. ltZ h (a .y)) closed)
 
   -- ---- all rows below u
   rows : ℤ → ℤ
   rows u = sum (λ m. part (g .D) (g .times m) (c m) (c (suc m)) u) n
 
-  rows-step : (u : ℤ) → rows (u +ℤ pos 1) ≡ rows u +ℤ sum (λ m. way (high u) m *ℤ X u m) n
+  rows-step : (u : ℤ) → rows (u +ℤ pos 1) ≡ rows u +ℤ sum (λ m. lift (high u) m *ℤ X u m) n
   unfolding rows X
   rows-step u =
       sum-same (λ m. part (g .D) (g .times m) (c m) (c (suc m)) (u +ℤ pos 1))
-      (λ m. part (g .D) (g .times m) (c m) (c (suc m)) u +ℤ way (high u) m *ℤ X u m) n
+      (λ m. part (g .D) (g .times m) (c m) (c (suc m)) u +ℤ lift (high u) m *ℤ X u m) n
       (λ m h. part-step (g .D) (g .times m) (c m) (c (suc m)) u)
-      ∙ sum-add (λ m. part (g .D) (g .times m) (c m) (c (suc m)) u) (λ m. way (high u) m *ℤ X u m) n
+      ∙ sum-add (λ m. part (g .D) (g .times m) (c m) (c (suc m)) u) (λ m. lift (high u) m *ℤ X u m) n
 
   bound : Bounds (λ m. c m .y) (suc n)
   bound = bounds (λ m. c m .y) (suc n)

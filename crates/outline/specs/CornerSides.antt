@@ -59,13 +59,13 @@ module _ (c : ℕ → Point) (n s t : ℕ) (here : Corner c n s t) where
     abbrev K+ : Positive K
     K+ = above-one K big
 
-    pub close-q : close c n s t here K (c (suc t)) ≡ value c n t
+    pub close-q : close c n (c t) K (c (suc t)) ≡ value c n t
     close-q = value-of c n (here .closed) (here .simple) K K+ t (here .t-below) (near W K q) (inner-near W q K big)
 
     inner-p : Inner (near W K p) (out K p) (out K W)
     inner-p = inner-turned (inner-near W p K big)
 
-    pub close-p : close c n s t here K (c s) ≡ value c n s
+    pub close-p : close c n (c t) K (c s) ≡ value c n s
     close-p =
         value-of c n (here .closed) (here .simple) K K+ s (here .s-below) (near W K p)
         (subst (λ w. Inner (near W K p) (out K p) (out K w)) (sym (here .joined)) inner-p)
@@ -140,7 +140,7 @@ module _ (c : ℕ → Point) (n s t : ℕ) (here : Corner c n s t) where
       not-both true b = refl
       not-both false b = not-not b
 
-      go : Sign (Turn W q p) → close c n s t here K p ⊕ close c n s t here K q ≡ rise p W ⊕ rise W q
+      go : Sign (Turn W q p) → close c n W K p ⊕ close c n W K q ≡ rise p W ⊕ rise W q
       go (plus h) =
           settled c n s t here p q f K enough (rise p W) (rise W q) (changes-back (p-left K big q h))
           (q-left K big p h)

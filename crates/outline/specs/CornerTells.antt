@@ -20,7 +20,7 @@ use Rattle.outline.specs.Drawing.{Point, Turn, InsideAngle}
 use Rattle.outline.specs.Segments.{turned-first, Dot}
 use Rattle.outline.specs.Spell.{I}
 use Rattle.outline.specs.Placed.{On, on-turn, touch-meets}
-use Rattle.outline.specs.Parity.{_⊕_, odd, out, large, OnSide}
+use Rattle.outline.specs.Parity.{_⊕_, out, large, OnSide}
 use Rattle.outline.specs.ParitySide.{⊕-no}
 use Rattle.outline.specs.Near.{near}
 use Rattle.outline.specs.Signs.{plus-off, both-signs, first-part, second-part}
@@ -43,7 +43,7 @@ pub data Verdict (l : Bool) (A : Type 0) (o : Bool) : Type 0 where
 pub record Close (c : ℕ → Point) (n : ℕ) (l : Bool) (p W q J : Point) : Type 0 where
   pub K : ℤ
   pub K-big : Positive (K -ℤ pos 1)
-  pub told : Verdict l (InsideAngle p W q J) (odd (large K c) (near W K J) n)
+  pub told : Verdict l (InsideAngle p W q J) (close c n W K J)
   pub on-no-side : ¬ OnSide (large K c) n (near W K J)
 
 module _ (c : ℕ → Point) (n s t : ℕ) (here : Corner c n s t) (J : Point) (long : Positive (Dot (c t) J J))
@@ -67,7 +67,7 @@ module _ (c : ℕ → Point) (n s t : ℕ) (here : Corner c n s t) (J : Point) (
   Closely = Close c n l p W q J
 
   abbrev Told : ℤ → Type 0
-  Told K = Verdict l Inside (close c n s t here K J)
+  Told K = Verdict l Inside (close c n W K J)
 
   -- ---- the near point of J is on no side
   off-all : (z : Point) (f : Far c n s t here J z n) (K : ℤ) → f .N ≤ℤ K → Positive K →
@@ -104,18 +104,18 @@ module _ (c : ℕ → Point) (n s t : ℕ) (here : Corner c n s t) (J : Point) (
   -- the parity at J, by way of q: side t changes it by r, side s by e; and by way of p
   by-q : (f : Far c n s t here J q n) (K : ℤ) → Positive (K -ℤ pos 1) → f .N ≤ℤ K → (r e : Bool) →
       Changes (near W K J) (near W K q) (out K W) (out K q) r →
-      Changes (near W K J) (near W K q) (out K p) (out K W) e → close c n s t here K J ≡ (value c n t ⊕ r) ⊕ e
+      Changes (near W K J) (near W K q) (out K p) (out K W) e → close c n W K J ≡ (value c n t ⊕ r) ⊕ e
   by-q f K big h r e at-t at-s =
-      ⊕-solve (close c n s t here K J) (value c n t) e r
-      (ap (λ z. close c n s t here K J ⊕ z) (sym (close-q c n s t here K big))
+      ⊕-solve (close c n W K J) (value c n t) e r
+      (ap (λ z. close c n W K J ⊕ z) (sym (close-q c n s t here K big))
       ∙ settled c n s t here J q f K h e r at-s at-t)
 
   by-p : (f : Far c n s t here J p n) (K : ℤ) → Positive (K -ℤ pos 1) → f .N ≤ℤ K → (r : Bool) →
       Changes (near W K J) (near W K p) (out K p) (out K W) r →
-      Changes (near W K J) (near W K p) (out K W) (out K q) false → close c n s t here K J ≡ value c n s ⊕ r
+      Changes (near W K J) (near W K p) (out K W) (out K q) false → close c n W K J ≡ value c n s ⊕ r
   by-p f K big h r at-s at-t =
-      ⊕-solve (close c n s t here K J) (value c n s) r false
-      (ap (λ z. close c n s t here K J ⊕ z) (sym (close-p c n s t here K big))
+      ⊕-solve (close c n W K J) (value c n s) r false
+      (ap (λ z. close c n W K J ⊕ z) (sym (close-p c n s t here K big))
       ∙ settled c n s t here J p f K h r false at-s at-t)
       ∙ ap (λ z. z ⊕ r) (⊕-no (value c n s))
 
@@ -124,7 +124,8 @@ module _ (c : ℕ → Point) (n s t : ℕ) (here : Corner c n s t) (J : Point) (
 
   -- ---- J left of the side to q
   left-case : Positive (Turn W q J) → (f : Far c n s t here J q n) → Closely
-  left-case A f = chosen q f (Turn W q J) A (λ K big h k. go K big h k (sign (Turn W q p)) (sign (Turn W p J)))
+  left-case on-left f =
+      chosen q f (Turn W q J) on-left (λ K big h k. go K big h k (sign (Turn W q p)) (sign (Turn W p J)))
     where
       go : (K : ℤ) → Positive (K -ℤ pos 1) → f .N ≤ℤ K → Turn W q J ≤ℤ K → Sign (Turn W q p) → Sign (Turn W p J) →
           Told K
@@ -133,28 +134,29 @@ module _ (c : ℕ → Point) (n s t : ℕ) (here : Corner c n s t) (J : Point) (
           K+ : Positive K
           K+ = above-one K big
 
-          passed : Beyond (Turn W q p) (Turn W p J) → close c n s t here K J ≡ l
+          passed : Beyond (Turn W q p) (Turn W p J) → close c n W K J ≡ l
           passed b =
-              by-q f K big h (rise W q) false (q-left c n s t here K big J A)
-              (changes-back (apart-changes (near W K q) (near W K J) (out K p) (out K W) (ray-apart W q J p K K+ A b)))
+              by-q f K big h (rise W q) false (q-left c n s t here K big J on-left)
+              (changes-back
+              (apart-changes (near W K q) (near W K J) (out K p) (out K W) (ray-apart W q J p K K+ on-left b)))
               ∙ ⊕-no l
 
-          crossed : Positive (Turn W q p) → Positive (Turn W p J) → close c n s t here K J ≡ not l
+          crossed : Positive (Turn W q p) → Positive (Turn W p J) → close c n W K J ≡ not l
           crossed x y =
-              by-q f K big h (rise W q) true (q-left c n s t here K big J A)
+              by-q f K big h (rise W q) true (q-left c n s t here K big J on-left)
               (changes-back
-              (thru-changes (near W K q) (near W K J) (out K p) (out K W) (ray-thru W q J p K K+ A x y k)))
+              (thru-changes (near W K q) (near W K J) (out K p) (out K W) (ray-thru W q J p K K+ on-left x y k)))
               ∙ ⊕-yes l
 
           wide : ¬ Positive (Turn W q p) → Inside
-          wide x = in-wide p W q J x (inr A)
+          wide x = in-wide p W q J x (inr on-left)
 
           at : Sign (Turn W q p) → Sign (Turn W p J) → Told K
           at (plus x) (plus y) =
               without (out-sharp p W q J x (λ i. both-signs y (left-right W J p (i .0)))) (crossed x y)
-          at (plus x) (minus y) = within (in-sharp p W q J x (right-left W p J y) A) (passed (past-J x y))
+          at (plus x) (minus y) = within (in-sharp p W q J x (right-left W p J y) on-left) (passed (past-J x y))
           at (plus x) (nought y) =
-              let e = in-line-back W p J y in both-signs x (right-of-other W J p q e (off-p e) A)
+              let e = in-line-back W p J y in both-signs x (right-of-other W J p q e (off-p e) on-left)
           at (minus x) (plus y) = within (wide (λ z. both-signs z x)) (passed (before-I x y))
           at (minus x) (minus y) =
               within (wide (λ z. both-signs z x)) (passed (behind (positive-nonneg x) (positive-nonneg y)))
@@ -162,11 +164,12 @@ module _ (c : ℕ → Point) (n s t : ℕ) (here : Corner c n s t) (J : Point) (
               within (wide (λ z. both-signs z x)) (passed (behind (positive-nonneg x) (nought-behind y)))
           at (nought x) y =
               within (wide (λ z. plus-off z x))
-              (passed (behind (nought-behind x) (positive-nonneg (left-of-other W q p J x (here .turns x) A))))
+              (passed (behind (nought-behind x) (positive-nonneg (left-of-other W q p J x (here .turns x) on-left))))
 
   -- ---- J right of it
   right-case : Positive (Turn W J q) → (f : Far c n s t here J q n) → Closely
-  right-case A f = chosen q f (Turn W J q) A (λ K big h k. go K big h k (sign (Turn W J p)) (sign (Turn W p q)))
+  right-case on-right f =
+      chosen q f (Turn W J q) on-right (λ K big h k. go K big h k (sign (Turn W J p)) (sign (Turn W p q)))
     where
       go : (K : ℤ) → Positive (K -ℤ pos 1) → f .N ≤ℤ K → Turn W J q ≤ℤ K → Sign (Turn W J p) → Sign (Turn W p q) →
           Told K
@@ -176,24 +179,26 @@ module _ (c : ℕ → Point) (n s t : ℕ) (here : Corner c n s t) (J : Point) (
           K+ = above-one K big
 
           with-s : (e : Bool) → Changes (near W K J) (near W K q) (out K p) (out K W) e →
-              close c n s t here K J ≡ not l ⊕ e
+              close c n W K J ≡ not l ⊕ e
           with-s e at-s =
-              by-q f K big h (not (rise W q)) e (q-right c n s t here K big J A) at-s
+              by-q f K big h (not (rise W q)) e (q-right c n s t here K big J on-right) at-s
               ∙ ap (λ z. z ⊕ e) (⊕-not (value c n t) (rise W q))
 
-          passed : Beyond (Turn W J p) (Turn W p q) → close c n s t here K J ≡ not l
+          passed : Beyond (Turn W J p) (Turn W p q) → close c n W K J ≡ not l
           passed b =
-              with-s false (apart-changes (near W K J) (near W K q) (out K p) (out K W) (ray-apart W J q p K K+ A b))
+              with-s false
+              (apart-changes (near W K J) (near W K q) (out K p) (out K W) (ray-apart W J q p K K+ on-right b))
               ∙ ⊕-no (not l)
 
-          crossed : Positive (Turn W J p) → Positive (Turn W p q) → close c n s t here K J ≡ l
+          crossed : Positive (Turn W J p) → Positive (Turn W p q) → close c n W K J ≡ l
           crossed x y =
-              with-s true (thru-changes (near W K J) (near W K q) (out K p) (out K W) (ray-thru W J q p K K+ A x y k))
+              with-s true
+              (thru-changes (near W K J) (near W K q) (out K p) (out K W) (ray-thru W J q p K K+ on-right x y k))
               ∙ ⊕-yes (not l) ∙ not-not l
 
           -- J is not left of the side to q
           right : ¬ Positive (Turn W q J)
-          right h = both-signs h (left-right W J q A)
+          right h = both-signs h (left-right W J q on-right)
 
           sharp : Positive (negℤ (Turn W p q)) → ¬ Inside
           sharp y = out-sharp p W q J (right-left W p q y) (λ i. right (i .1))
@@ -206,7 +211,7 @@ module _ (c : ℕ → Point) (n s t : ℕ) (here : Corner c n s t) (J : Point) (
               within (in-wide p W q J (λ h. both-signs h (left-right W p q y)) (inl x)) (crossed x y)
           at (plus x) (minus y) = without (sharp y) (passed (past-J x y))
           at (plus x) (nought y) =
-              let e = in-line-back W p q y in both-signs x (right-of-other W q p J e (here .turns e) A)
+              let e = in-line-back W p q y in both-signs x (right-of-other W q p J e (here .turns e) on-right)
           at (minus x) (plus y) =
               without (wide (λ h. both-signs h (left-right W p q y)) x) (passed (before-I x y))
           at (minus x) (minus y) = without (sharp y) (passed (behind (positive-nonneg x) (positive-nonneg y)))
@@ -214,7 +219,7 @@ module _ (c : ℕ → Point) (n s t : ℕ) (here : Corner c n s t) (J : Point) (
               without (wide (λ h. plus-off h (in-line-back W p q y)) x)
               (passed (behind (positive-nonneg x) (nought-behind y)))
           at (nought x) y =
-              let z = left-of-other W J p q x (off-p x) A in
+              let z = left-of-other W J p q x (off-p x) on-right in
               without (sharp z) (passed (behind (nought-behind x) (positive-nonneg z)))
 
   -- ---- J on the line of the side to q, away from it: by way of the side from p

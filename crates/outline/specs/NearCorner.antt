@@ -32,16 +32,16 @@ pub record Corner (c : ℕ → Point) (n s t : ℕ) : Type 0 where
   pub off-others : (m : ℕ) → m < n → ¬ (m ≡ s) → ¬ (m ≡ t) → ¬ On (c t) (c m) (c (suc m))
   pub turns : Away (c t) (c (suc t)) (c s)
 
+-- the parity close to W in the direction of z
+abbrev pub close : (ℕ → Point) → ℕ → Point → ℤ → Point → Bool
+close c n W K z = odd (large K c) (near W K z) n
+
 module _ (c : ℕ → Point) (n s t : ℕ) (here : Corner c n s t) where
   abbrev W : Point
   W = c t
 
   abbrev p : Point
   p = c s
-
-  -- the parity close to W in the direction of z
-  abbrev pub close : ℤ → Point → Bool
-  close K z = odd (large K c) (near (c t) K z) n
 
   -- ---- from N on, no other side meets the segment between two near points
   abbrev Meets : Point → Point → ℕ → ℤ → Type 0
@@ -85,7 +85,8 @@ module _ (c : ℕ → Point) (n s t : ℕ) (here : Corner c n s t) where
   -- so the two sides at W settle how the parity changes between two directions
   pub settled : (y z : Point) (f : Far y z n) (K : ℤ) → f .N ≤ℤ K → (e g : Bool) →
       Changes (near (c t) K y) (near (c t) K z) (out K (c s)) (out K (c t)) e →
-      Changes (near (c t) K y) (near (c t) K z) (out K (c t)) (out K (c (suc t))) g → close K y ⊕ close K z ≡ e ⊕ g
+      Changes (near (c t) K y) (near (c t) K z) (out K (c t)) (out K (c (suc t))) g →
+      close c n (c t) K y ⊕ close c n (c t) K z ≡ e ⊕ g
   settled y z f K h e g at-s at-t =
       two-changes (large K c) n (ap (out K) (here .closed)) (near W K y) (near W K z) s t e g (here .s-below)
       (here .t-below) (here .two)
