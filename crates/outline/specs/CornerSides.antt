@@ -20,7 +20,7 @@ use Rattle.outline.specs.Spell.{A, B, C, O, I, env4, TurnE, DotE}
 use Rattle.outline.specs.Parity.{_⊕_, out}
 use Rattle.outline.specs.ParitySide.{⊕-same}
 use Rattle.outline.specs.Near.{near}
-use Rattle.outline.specs.Signs.{first-part}
+use Rattle.outline.specs.Compare.{first-part}
 use Rattle.outline.specs.TruthSums.{not-not, ⊕-across}
 use Rattle.outline.specs.Directions.{right-left}
 use Rattle.outline.specs.Inner.{Inner, inner-turned, inner-line, inner-near}

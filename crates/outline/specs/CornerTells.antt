@@ -23,7 +23,7 @@ use Rattle.outline.specs.Placed.{On, on-turn, touch-meets}
 use Rattle.outline.specs.Parity.{_⊕_, out, large, OnSide}
 use Rattle.outline.specs.ParitySide.{⊕-no}
 use Rattle.outline.specs.Near.{near}
-use Rattle.outline.specs.Signs.{plus-off, both-signs, first-part, second-part}
+use Rattle.outline.specs.Compare.{plus-off, both-signs, first-part, second-part}
 use Rattle.outline.specs.TruthSums.{⊕-yes, ⊕-not, not-not, ⊕-solve}
 use Rattle.outline.specs.Directions.{right-left, left-right, in-line-back, Away, left-of-other, right-of-other}
 use Rattle.outline.specs.AngleAt.{in-sharp, in-wide, out-sharp, out-wide, not-folded}

@@ -23,7 +23,7 @@ use Rattle.outline.specs.Stretch.{Opposite}
 use Rattle.outline.specs.CentreTest.{apart-length, corners-apart}
 use Rattle.outline.specs.CentreMirror.{dot-on}
 use Rattle.outline.specs.Way.{Free}
-use Rattle.outline.specs.Signs.{plus-off, minus-off}
+use Rattle.outline.specs.Compare.{plus-off, minus-off}
 use Rattle.outline.specs.Directions.{all-in-line}
 use Rattle.outline.specs.Barred.{off-side}
 

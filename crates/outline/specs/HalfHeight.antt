@@ -18,7 +18,7 @@ use Rattle.outline.specs.Spell.{PointE, A, B, O, I, TurnE}
 use Rattle.outline.specs.Parity.{_⊕_, pt, higher, passes, crosses, out}
 use Rattle.outline.specs.ParitySide.{Ltr}
 use Rattle.outline.specs.ParityRound.{Ltr-scale, ltZ-sub}
-use Rattle.outline.specs.Signs.{plus-off, less, not-less, is-less, is-not-less}
+use Rattle.outline.specs.Compare.{plus-off, less, not-less, is-less, is-not-less}
 use Rattle.outline.specs.Inner.{Inner}
 use Rattle.outline.specs.Rising.{Rises, rising, falling, rises-once, none-back}
 use Rattle.outline.specs.RowStep.{both}

@@ -23,7 +23,7 @@ use Rattle.outline.specs.EveryPoint.{sum2}
 use Rattle.outline.specs.Near.{near}
 use Rattle.outline.specs.Reading.{round, round-inner, round-closed, in-read, in-said}
 use Rattle.outline.specs.CentreTest.{half, apart-length, corners-apart}
-use Rattle.outline.specs.Signs.{plus-off}
+use Rattle.outline.specs.Compare.{plus-off}
 use Rattle.outline.specs.Inner.{inner-half, inner-near}
 use Rattle.outline.specs.Met.{Met, met}
 use Rattle.outline.specs.Value.{half-value, steady-value, clear-steady}

@@ -18,7 +18,7 @@ use Rattle.outline.specs.Drawing.{Point, Turn}
 use Rattle.outline.specs.Spell.{A, B, C, D, P, Q, O, I, env, TurnE}
 use Rattle.outline.specs.Parity.{_⊕_, higher, passes, crosses}
 use Rattle.outline.specs.ParitySide.{Ltr, yes-of, no-of, inside}
-use Rattle.outline.specs.Signs.{less, not-less}
+use Rattle.outline.specs.Compare.{less, not-less}
 use Rattle.outline.specs.Inner.{Inner, weight, inner-turned, inner-line, inner-between, inner-level}
 use Rattle.outline.specs.Rising.{Rises, rising, falling, leftward, rightward}
 use Rattle.outline.specs.SideChanges.{Change, Changes, no-crossing}

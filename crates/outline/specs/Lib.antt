@@ -40,7 +40,7 @@ pub mod Reading
 pub mod CentreTest
 pub mod CentreSight
 pub mod CentreMirror
-pub mod Signs
+pub mod Compare
 pub mod TruthSums
 pub mod Directions
 pub mod Inner

@@ -16,7 +16,7 @@ use Rattle.outline.specs.Parity.{_⊕_, odd, out, large}
 use Rattle.outline.specs.Between.{last}
 use Rattle.outline.specs.EveryPoint.{Simple}
 use Rattle.outline.specs.Near.{near, Off, off-side}
-use Rattle.outline.specs.Signs.{first-part, second-part}
+use Rattle.outline.specs.Compare.{first-part, second-part}
 use Rattle.outline.specs.Directions.{Away}
 use Rattle.outline.specs.SideChanges.{Changes, apart-changes}
 use Rattle.outline.specs.AllChanges.{two-changes}

@@ -23,7 +23,7 @@ use Rattle.outline.specs.Spell.{A, B, C, D, O, I, env4, TurnE, DotE}
 use Rattle.outline.specs.Parity.{odd, large, InOn}
 use Rattle.outline.specs.Near.{near}
 use Rattle.outline.specs.Reading.{round, in-read}
-use Rattle.outline.specs.Signs.{plus-off, both-signs}
+use Rattle.outline.specs.Compare.{plus-off, both-signs}
 use Rattle.outline.specs.Directions.{left-right, in-line-back, turn-at}
 use Rattle.outline.specs.Ray.{above-one}
 use Rattle.outline.specs.CornerTells.{Verdict, within, without, Close}

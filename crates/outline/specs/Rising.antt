@@ -9,7 +9,7 @@ use Rattle.whole.specs.Order.{positive-cancel, zero-cancel}
 use Rattle.outline.specs.Drawing.{Point}
 use Rattle.outline.specs.Segments.{Dot}
 use Rattle.outline.specs.Spell.{A, B, O, I, env4, DotE}
-use Rattle.outline.specs.Signs.{plus-off, both-signs}
+use Rattle.outline.specs.Compare.{plus-off, both-signs}
 
 pub data Rises (a b : Point) : Bool → Type 0 where
   rising : Positive (b .y -ℤ a .y) → Rises a b true

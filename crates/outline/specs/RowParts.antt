@@ -10,7 +10,7 @@ use Rattle.whole.specs.Ring.{E, v, _:+_, _:-_, _:*_, ring, ring1, by-ring}
 use Rattle.whole.specs.Order.{Nonneg, positive-pos, positive-pred, sub-le, lt-sub, ≤ℤ-trans, ≤ℤ-total, ≤ℤ-antisym}
 use Rattle.outline.specs.Drawing.{Point}
 use Rattle.outline.specs.Spell.{A, B, O, I}
-use Rattle.outline.specs.Signs.{first-part, less, not-less}
+use Rattle.outline.specs.Compare.{first-part, less, not-less}
 use Rattle.outline.specs.RowStep.{one-if}
 use Rattle.outline.specs.CommonHeight.{Divides}
 use Rattle.outline.specs.HalfHeight.{place}

@@ -14,7 +14,7 @@ use Rattle.whole.specs.Order.{positive-nonneg, positive-add, positive-pred, sub
 use Rattle.outline.specs.Spell.{O, I}
 use Rattle.outline.specs.Parity.{_⊕_}
 use Rattle.outline.specs.Stretch.{from-zero}
-use Rattle.outline.specs.Signs.{less, not-less}
+use Rattle.outline.specs.Compare.{less, not-less}
 use Rattle.outline.specs.TruthSums.{⊕-not}
 use Rattle.outline.specs.AllChanges.{total}
 use Rattle.outline.specs.Sums.{sum, sum-same, sum-add}

@@ -16,7 +16,7 @@ use Rattle.outline.specs.Spell.{A, B, P, O, env, outE, DotE}
 use Rattle.outline.specs.Parity.{_⊕_, pt, odd, out, large}
 use Rattle.outline.specs.ParityRound.{odd-scale, ⊕-zero}
 use Rattle.outline.specs.EveryPoint.{Simple, sum2}
-use Rattle.outline.specs.Signs.{plus-off}
+use Rattle.outline.specs.Compare.{plus-off}
 use Rattle.outline.specs.Inner.{Inner, inner-line, inner-grown, inner-half}
 use Rattle.outline.specs.Rising.{rise}
 use Rattle.outline.specs.SideChanges.{Changes, apart-changes, line-changes}
