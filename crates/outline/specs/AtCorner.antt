@@ -12,13 +12,14 @@ use lib.IntN.{ℤ, pos, negℤ, _+ℤ_, _-ℤ_, _*ℤ_}
 use lib.Signed.{_≤ℤ_, _<ℤ_, <ℤ-irrefl, ≤ℤ-refl}
 use Rattle.whole.specs.Ring.{E, v, con, _:+_, _:-_, _:*_, neg, ring, ring1, ring2, by-ring}
 use Rattle.whole.specs.Order.{Nonneg, Positive, nonneg-pos, positive-pos, nonneg-add, nonneg-mul, positive-nonneg, positive-add, positive-mul, positive-pred, positive-not, positive-cancel, zero-cancel, le-sub, sub-le, ≤ℤ-trans, ≤ℤ-total, <ℤ-le, Sign, plus, nought, minus, sign}
-use Rattle.outline.specs.Drawing.{Point, Shared, InsideAngle}
+use Rattle.outline.specs.Drawing.{Point, Shared, InsideAngle, Turn}
 use Rattle.outline.specs.Placed.{On, on-turn, touch-meets}
 use Rattle.outline.specs.Segments.{Dot, turned-second}
-use Rattle.outline.specs.Parity.{_⊕_, turn, odd, out, large, OnSide}
-use Rattle.outline.specs.ParityRound.{⊕-zero}
-use Rattle.outline.specs.Stretch.{len2}
-use Rattle.outline.specs.Between.{last}
+use Rattle.outline.specs.Odd.{_⊕_}
+use Rattle.outline.specs.Parity.{odd, out, large, OnSide}
+use Rattle.outline.specs.Xor.{⊕-zero}
+use Rattle.outline.specs.Along.{len2}
+use Rattle.outline.specs.Topmost.{last}
 use Rattle.outline.specs.EveryPoint.{Simple}
 use Rattle.outline.specs.Near.{near, Off, off-side}
 use Rattle.outline.specs.Change.{Changes, changes-back, changes-turned, apart-changes, thru-changes, line-changes, two-changes, Inner, inner-turned, inner-changes, Dir, rise, direction, dir-turned, dir-like, dir-unique, px}
@@ -107,7 +108,7 @@ pub record Close (c : ℕ → Point) (n s t : ℕ) (l : Bool) (J : Point) : Type
 
 -- b does not point the same way from W as a
 abbrev pub Away : Point → Point → Point → Type 0
-Away W a b = turn W a b ≡ pos 0 → Positive (negℤ (Dot W a b))
+Away W a b = Turn W a b ≡ pos 0 → Positive (negℤ (Dot W a b))
 
 module _ (c : ℕ → Point) (n : ℕ) (closed : c n ≡ c 0) (simple : Simple c n) (s t : ℕ) (hs : s < n) (ht : t < n) (st : s ≡ t → ⊥) (ws : c (suc s) ≡ c t)
     (off : (m : ℕ) → m < n → (m ≡ s → ⊥) → (m ≡ t → ⊥) → On (c t) (c m) (c (suc m)) → ⊥) (turns : Away (c t) (c (suc t)) (c s)) where
@@ -187,17 +188,17 @@ module _ (c : ℕ → Point) (n : ℕ) (closed : c n ≡ c 0) (simple : Simple c
   dir-p K K+ = dir-grown K p W K+ (direction p W len-p)
 
   -- the side to q, seen from P near I, with the near point of q
-  q-left : (I : Point) (K : ℤ) → Positive (K -ℤ pos 1) → Positive K → Positive (turn W q I) → Changes (near W K I) (near W K q) (out K W) (out K q) (rise W q)
+  q-left : (I : Point) (K : ℤ) → Positive (K -ℤ pos 1) → Positive K → Positive (Turn W q I) → Changes (near W K I) (near W K q) (out K W) (out K q) (rise W q)
   q-left I K h K+ a = inner-changes (near W K I) (near W K q) (out K W) (out K q) (near-inner W q K h) (subst Positive (from-W W I I q K) (positive-mul K+ a)) (dir-q K K+)
 
-  q-right : (I : Point) (K : ℤ) → Positive (K -ℤ pos 1) → Positive K → Positive (turn W I q) → Changes (near W K I) (near W K q) (out K W) (out K q) (not (rise W q))
+  q-right : (I : Point) (K : ℤ) → Positive (K -ℤ pos 1) → Positive K → Positive (Turn W I q) → Changes (near W K I) (near W K q) (out K W) (out K q) (not (rise W q))
   q-right I K h K+ a = changes-turned (near W K I) (near W K q) (out K q) (out K W) (not (rise W q))
       (inner-changes (near W K I) (near W K q) (out K q) (out K W) (inner-turned (near-inner W q K h)) (subst Positive (to-W W I I q K) (positive-mul K+ a)) (dir-turned (dir-q K K+)))
 
-  p-left : (I : Point) (K : ℤ) → Positive (K -ℤ pos 1) → Positive K → Positive (turn W I p) → Changes (near W K I) (near W K p) (out K p) (out K W) (rise p W)
+  p-left : (I : Point) (K : ℤ) → Positive (K -ℤ pos 1) → Positive K → Positive (Turn W I p) → Changes (near W K I) (near W K p) (out K p) (out K W) (rise p W)
   p-left I K h K+ a = inner-changes (near W K I) (near W K p) (out K p) (out K W) (inner-p K h) (subst Positive (to-W W I I p K) (positive-mul K+ a)) (dir-p K K+)
 
-  p-right : (I : Point) (K : ℤ) → Positive (K -ℤ pos 1) → Positive K → Positive (turn W p I) → Changes (near W K I) (near W K p) (out K p) (out K W) (not (rise p W))
+  p-right : (I : Point) (K : ℤ) → Positive (K -ℤ pos 1) → Positive K → Positive (Turn W p I) → Changes (near W K I) (near W K p) (out K p) (out K W) (not (rise p W))
   p-right I K h K+ a = changes-turned (near W K I) (near W K p) (out K W) (out K p) (not (rise p W))
       (inner-changes (near W K I) (near W K p) (out K W) (out K p) (near-inner W p K h) (subst Positive (from-W W I I p K) (positive-mul K+ a)) (dir-turned (dir-p K K+)))
 
@@ -212,7 +213,7 @@ module _ (c : ℕ → Point) (n : ℕ) (closed : c n ≡ c 0) (simple : Simple c
   rise-s = ap (rise p) ws
 
   -- straight on
-  same-rise : turn W q p ≡ pos 0 → rise p W ≡ rise W q
+  same-rise : Turn W q p ≡ pos 0 → rise p W ≡ rise W q
   same-rise e = dir-unique W q (dir-like p W W q (negℤ (Dot W q p)) (len2 p W) (turns e) len-p (ax-x e) (ax-y e) (direction p W len-p)) (direction W q len-q)
     where
       ρ : List ℤ
@@ -227,10 +228,10 @@ module _ (c : ℕ → Point) (n : ℕ) (closed : c n ≡ c 0) (simple : Simple c
       T : E
       T = px (v 0) (v 1) (v 2) (v 3) (v 4) (v 5)
 
-      ax-x : turn W q p ≡ pos 0 → negℤ (Dot W q p) *ℤ (W .x -ℤ p .x) ≡ len2 p W *ℤ (q .x -ℤ W .x)
+      ax-x : Turn W q p ≡ pos 0 → negℤ (Dot W q p) *ℤ (W .x -ℤ p .x) ≡ len2 p W *ℤ (q .x -ℤ W .x)
       ax-x e = ring1 ρ (neg D :* (v 0 :- v 4)) (L :* (v 2 :- v 0)) (neg (v 5 :- v 1)) T (con (pos 0)) e refl
 
-      ax-y : turn W q p ≡ pos 0 → negℤ (Dot W q p) *ℤ (W .y -ℤ p .y) ≡ len2 p W *ℤ (q .y -ℤ W .y)
+      ax-y : Turn W q p ≡ pos 0 → negℤ (Dot W q p) *ℤ (W .y -ℤ p .y) ≡ len2 p W *ℤ (q .y -ℤ W .y)
       ax-y e = ring1 ρ (neg D :* (v 1 :- v 5)) (L :* (v 3 :- v 1)) (v 4 :- v 0) T (con (pos 0)) e refl
 
   grown : (N : ℤ) → Positive N → Positive (N +ℤ pos 1 -ℤ pos 1)
@@ -240,9 +241,9 @@ module _ (c : ℕ → Point) (n : ℕ) (closed : c n ≡ c 0) (simple : Simple c
   more N = sub-le (by-ring (N ∷ []) Nonneg (con (pos 1)) (v 0 :+ con (pos 1) :- v 0) refl (nonneg-pos 1))
 
   pub same-left : left-s ≡ left-t
-  same-left = ap (λ z. value c n closed simple s ⊕ z) rise-s ∙ go (far-all p q n (le-refl n)) (sign (turn W q p))
+  same-left = ap (λ z. value c n closed simple s ⊕ z) rise-s ∙ go (far-all p q n (le-refl n)) (sign (Turn W q p))
     where
-      go : Far p q n → Sign (turn W q p) → value c n closed simple s ⊕ rise p W ≡ value c n closed simple t ⊕ rise W q
+      go : Far p q n → Sign (Turn W q p) → value c n closed simple s ⊕ rise p W ≡ value c n closed simple t ⊕ rise W q
       go f g = four (value c n closed simple s) (value c n closed simple t) (rise p W) (rise W q)
           (ap (λ z. z ⊕ value c n closed simple t) (sym (value-p K h K+)) ∙ ap (λ z. odd (large K c) (near W K p) n ⊕ z) (sym (value-q K h K+)) ∙ at g)
         where
@@ -255,13 +256,13 @@ module _ (c : ℕ → Point) (n : ℕ) (closed : c n ≡ c 0) (simple : Simple c
           K+ : Positive K
           K+ = positive-add (f .N+) (nonneg-pos 1)
 
-          at : Sign (turn W q p) → odd (large K c) (near W K p) n ⊕ odd (large K c) (near W K q) n ≡ rise p W ⊕ rise W q
+          at : Sign (Turn W q p) → odd (large K c) (near W K p) n ⊕ odd (large K c) (near W K q) n ≡ rise p W ⊕ rise W q
           at (plus a) = pair p q f K (more (f .N)) (rise p W) (rise W q) (changes-back (p-left q K h K+ a)) (q-left p K h K+ a)
           at (minus a) = pair p q f K (more (f .N)) (not (rise p W)) (not (rise W q)) (changes-back (p-right q K h K+ (anti+ W q p a))) (q-right p K h K+ (anti+ W q p a)) ∙ not-both (rise p W) (rise W q)
           at (nought a) = pair p q f K (more (f .N)) false false
               (line-changes (near W K p) (near W K q) (out K p) (out K W) (grown-length K p W K+ len-p) (inner-line (inner-p K h)) (sym (to-W W q q p K) ∙ ap (λ z. K *ℤ z) a ∙ ring (K ∷ []) (v 0 :* con (pos 0)) (con (pos 0)) refl))
               (line-changes (near W K p) (near W K q) (out K W) (out K q) (grown-length K W q K+ len-q) (sym (from-W W p p q K) ∙ ap (λ z. K *ℤ z) a ∙ ring (K ∷ []) (v 0 :* con (pos 0)) (con (pos 0)) refl) (inner-line (near-inner W q K h)))
-              ∙ sym (ap (λ z. rise p W ⊕ z) (sym (same-rise a)) ∙ Rattle.outline.specs.ParitySide.⊕-same (rise p W))
+              ∙ sym (ap (λ z. rise p W ⊕ z) (sym (same-rise a)) ∙ Rattle.outline.specs.Xor.⊕-same (rise p W))
 
   -- ---- a direction J that is along neither side
   module _ (J : Point) (len-J : Positive (len2 W J)) (aq : Away W J q) (ap′ : Away W J p) where
@@ -294,54 +295,54 @@ module _ (c : ℕ → Point) (n : ℕ) (closed : c n ≡ c 0) (simple : Simple c
     both-signs h k = positive-not h (positive-nonneg k)
 
     -- turn at W, as 01 writes it
-    turn-here : Positive (turn p W q) → Positive (turn W q p)
+    turn-here : Positive (Turn p W q) → Positive (Turn W q p)
     turn-here h = subst Positive (cycle W p q) h
 
-    turn-there : Positive (turn W q p) → Positive (turn p W q)
+    turn-there : Positive (Turn W q p) → Positive (Turn p W q)
     turn-there h = subst Positive (sym (cycle W p q)) h
 
-    no-left : {X : Type 0} → Positive (negℤ (turn W q p)) ⊎ (turn W q p ≡ pos 0) → pos 0 <ℤ turn p W q → X
+    no-left : {X : Type 0} → Positive (negℤ (Turn W q p)) ⊎ (Turn W q p ≡ pos 0) → pos 0 <ℤ Turn p W q → X
     no-left (inl k) h = both-signs (turn-here h) k
     no-left (inr e) h = is-pos (turn-here h) e
 
     neg-le : {X : Type 0} (z : ℤ) → Positive (negℤ z) → pos 0 ≤ℤ z → X
     neg-le z h k = positive-not h (by-ring (z ∷ []) Nonneg (v 0) (neg (neg (v 0))) refl k)
 
-    outside-left : Positive (turn W q p) → (Positive (turn W q J) → Positive (turn W J p) → ⊥) → Inside → ⊥
+    outside-left : Positive (Turn W q p) → (Positive (Turn W q J) → Positive (Turn W J p) → ⊥) → Inside → ⊥
     outside-left h f i = let w = i .left (turn-there h) in f (w .0) (w .1)
 
     -- ---- J left of the side to q
-    module _ (A : Positive (turn W q J)) where
+    module _ (A : Positive (Turn W q J)) where
       abbrev T1 : ℤ
-      T1 = turn W q J
+      T1 = Turn W q J
 
       left-case : (f : Far J q n) → Closely
-      left-case f = record { K = f .N +ℤ turn W q J; K-big = en .0; told = go (sign (turn W q p)) (sign (turn W p J)); on-no-side = off-all q f (f .N +ℤ turn W q J) (en .1 .0) K+ }
+      left-case f = record { K = f .N +ℤ Turn W q J; K-big = en .0; told = go (sign (Turn W q p)) (sign (Turn W p J)); on-no-side = off-all q f (f .N +ℤ Turn W q J) (en .1 .0) K+ }
         where
-          en : Positive (f .N +ℤ turn W q J -ℤ pos 1) × ((f .N ≤ℤ (f .N +ℤ turn W q J)) × (turn W q J ≤ℤ (f .N +ℤ turn W q J)))
-          en = enough (f .N) (turn W q J) (f .N+) A
+          en : Positive (f .N +ℤ Turn W q J -ℤ pos 1) × ((f .N ≤ℤ (f .N +ℤ Turn W q J)) × (Turn W q J ≤ℤ (f .N +ℤ Turn W q J)))
+          en = enough (f .N) (Turn W q J) (f .N+) A
 
-          K+ : Positive (f .N +ℤ turn W q J)
+          K+ : Positive (f .N +ℤ Turn W q J)
           K+ = positive-add (f .N+) (positive-nonneg A)
 
           K : ℤ
-          K = f .N +ℤ turn W q J
+          K = f .N +ℤ Turn W q J
 
           -- with the side to p changing it by e
           with-p : (e : Bool) → Changes (near W K J) (near W K q) (out K p) (out K W) e → odd (large K c) (near W K J) n ≡ (value c n closed simple t ⊕ rise W q) ⊕ e
           with-p e ch = from-sum (odd (large K c) (near W K J) n) (value c n closed simple t) e (rise W q)
               (ap (λ z. odd (large K c) (near W K J) n ⊕ z) (sym (value-q K (en .0) K+)) ∙ pair J q f K (en .1 .0) e (rise W q) ch (q-left J K (en .0) K+ A))
 
-          passed : Beyond (turn W q p) (turn W p J) → odd (large K c) (near W K J) n ≡ value c n closed simple t ⊕ rise W q
+          passed : Beyond (Turn W q p) (Turn W p J) → odd (large K c) (near W K J) n ≡ value c n closed simple t ⊕ rise W q
           passed b = with-p false (changes-back (apart-changes (near W K q) (near W K J) (out K p) (out K W) (ray-apart W q J p K K+ A b))) ∙ ⊕-false (value c n closed simple t ⊕ rise W q)
 
-          crossed : Positive (turn W q p) → Positive (turn W p J) → odd (large K c) (near W K J) n ≡ not (value c n closed simple t ⊕ rise W q)
+          crossed : Positive (Turn W q p) → Positive (Turn W p J) → odd (large K c) (near W K J) n ≡ not (value c n closed simple t ⊕ rise W q)
           crossed x y = with-p true (changes-back (thru-changes (near W K q) (near W K J) (out K p) (out K W) (ray-thru W q J p K K+ A x y (en .1 .1)))) ∙ ⊕-true (value c n closed simple t ⊕ rise W q)
 
-          in-wide : Positive (negℤ (turn W q p)) ⊎ (turn W q p ≡ pos 0) → Inside
-          in-wide k = record { left = λ h. no-left k h; other = λ h w. neg-le (turn W J q) (anti- W q J A) (w .1) }
+          in-wide : Positive (negℤ (Turn W q p)) ⊎ (Turn W q p ≡ pos 0) → Inside
+          in-wide k = record { left = λ h. no-left k h; other = λ h w. neg-le (Turn W J q) (anti- W q J A) (w .1) }
 
-          go : Sign (turn W q p) → Sign (turn W p J) → Verdict (value c n closed simple t ⊕ rise W q) Inside (odd (large K c) (near W K J) n)
+          go : Sign (Turn W q p) → Sign (Turn W p J) → Verdict (value c n closed simple t ⊕ rise W q) Inside (odd (large K c) (near W K J) n)
           go (plus x) (plus y) = without (outside-left x (λ a b. both-signs y (anti- W J p b))) (crossed x y)
           go (plus x) (minus y) = within (record { left = λ h. (A, anti+ W p J y); other = λ h. absurd (h (turn-there x)) }) (passed (after x y))
           go (plus x) (nought y) = both-signs x (opp′ W J p q (anti0 W p J y) (ap′ (anti0 W p J y)) A)
@@ -351,18 +352,18 @@ module _ (c : ℕ → Point) (n : ℕ) (closed : c n ≡ c 0) (simple : Simple c
           go (nought x) y = within (in-wide (inr x)) (passed (behind (subst (λ z. Nonneg (negℤ z)) (sym x) (nonneg-pos 0)) (positive-nonneg (opp W q p J x (turns x) A))))
 
     -- ---- J right of it
-    module _ (A : Positive (turn W J q)) where
+    module _ (A : Positive (Turn W J q)) where
       right-case : (f : Far J q n) → Closely
-      right-case f = record { K = f .N +ℤ turn W J q; K-big = en .0; told = go (sign (turn W J p)) (sign (turn W p q)); on-no-side = off-all q f (f .N +ℤ turn W J q) (en .1 .0) K+ }
+      right-case f = record { K = f .N +ℤ Turn W J q; K-big = en .0; told = go (sign (Turn W J p)) (sign (Turn W p q)); on-no-side = off-all q f (f .N +ℤ Turn W J q) (en .1 .0) K+ }
         where
-          en : Positive (f .N +ℤ turn W J q -ℤ pos 1) × ((f .N ≤ℤ (f .N +ℤ turn W J q)) × (turn W J q ≤ℤ (f .N +ℤ turn W J q)))
-          en = enough (f .N) (turn W J q) (f .N+) A
+          en : Positive (f .N +ℤ Turn W J q -ℤ pos 1) × ((f .N ≤ℤ (f .N +ℤ Turn W J q)) × (Turn W J q ≤ℤ (f .N +ℤ Turn W J q)))
+          en = enough (f .N) (Turn W J q) (f .N+) A
 
-          K+ : Positive (f .N +ℤ turn W J q)
+          K+ : Positive (f .N +ℤ Turn W J q)
           K+ = positive-add (f .N+) (positive-nonneg A)
 
           K : ℤ
-          K = f .N +ℤ turn W J q
+          K = f .N +ℤ Turn W J q
 
           l : Bool
           l = value c n closed simple t ⊕ rise W q
@@ -372,27 +373,27 @@ module _ (c : ℕ → Point) (n : ℕ) (closed : c n ≡ c 0) (simple : Simple c
               (ap (λ z. odd (large K c) (near W K J) n ⊕ z) (sym (value-q K (en .0) K+)) ∙ pair J q f K (en .1 .0) e (not (rise W q)) ch (q-right J K (en .0) K+ A))
               ∙ ap (λ z. z ⊕ e) (⊕-not-r (value c n closed simple t) (rise W q))
 
-          passed : Beyond (turn W J p) (turn W p q) → odd (large K c) (near W K J) n ≡ not (value c n closed simple t ⊕ rise W q)
+          passed : Beyond (Turn W J p) (Turn W p q) → odd (large K c) (near W K J) n ≡ not (value c n closed simple t ⊕ rise W q)
           passed b = with-p false (apart-changes (near W K J) (near W K q) (out K p) (out K W) (ray-apart W J q p K K+ A b)) ∙ ⊕-false (not (value c n closed simple t ⊕ rise W q))
 
-          crossed : Positive (turn W J p) → Positive (turn W p q) → odd (large K c) (near W K J) n ≡ value c n closed simple t ⊕ rise W q
+          crossed : Positive (Turn W J p) → Positive (Turn W p q) → odd (large K c) (near W K J) n ≡ value c n closed simple t ⊕ rise W q
           crossed x y = with-p true (thru-changes (near W K J) (near W K q) (out K p) (out K W) (ray-thru W J q p K K+ A x y (en .1 .1)))
               ∙ ⊕-true (not (value c n closed simple t ⊕ rise W q)) ∙ not-not (value c n closed simple t ⊕ rise W q)
 
           -- a left turn: J is not left of the side to q
-          sharp : Positive (negℤ (turn W p q)) → Inside → ⊥
+          sharp : Positive (negℤ (Turn W p q)) → Inside → ⊥
           sharp y i = both-signs (i .left (turn-there (anti+ W p q y)) .0) (anti- W J q A)
 
           -- otherwise: J lies between the sides, on the other side
-          wide : (pos 0 <ℤ turn p W q → ⊥) → Positive (negℤ (turn W J p)) → Inside → ⊥
+          wide : (pos 0 <ℤ Turn p W q → ⊥) → Positive (negℤ (Turn W J p)) → Inside → ⊥
           wide h x i = i .other h (<ℤ-le (anti+ W J p x), <ℤ-le A)
 
-          no-turn : Positive (turn W p q) ⊎ (turn W p q ≡ pos 0) → pos 0 <ℤ turn p W q → ⊥
+          no-turn : Positive (Turn W p q) ⊎ (Turn W p q ≡ pos 0) → pos 0 <ℤ Turn p W q → ⊥
           no-turn (inl y) h = no-left (inl (anti- W p q y)) h
           no-turn (inr y) h = no-left (inr (anti0 W p q y)) h
 
-          go : Sign (turn W J p) → Sign (turn W p q) → Verdict (value c n closed simple t ⊕ rise W q) Inside (odd (large K c) (near W K J) n)
-          go (plus x) (plus y) = within (record { left = λ h. absurd (no-turn (inl y) h); other = λ h w. neg-le (turn W p J) (anti- W J p x) (w .0) }) (crossed x y)
+          go : Sign (Turn W J p) → Sign (Turn W p q) → Verdict (value c n closed simple t ⊕ rise W q) Inside (odd (large K c) (near W K J) n)
+          go (plus x) (plus y) = within (record { left = λ h. absurd (no-turn (inl y) h); other = λ h w. neg-le (Turn W p J) (anti- W J p x) (w .0) }) (crossed x y)
           go (plus x) (minus y) = without (sharp y) (passed (after x y))
           go (plus x) (nought y) = both-signs x (opp′ W q p J (anti0 W p q y) (turns (anti0 W p q y)) A)
           go (minus x) (plus y) = without (wide (no-turn (inl y)) x) (passed (before x y))
@@ -401,11 +402,11 @@ module _ (c : ℕ → Point) (n : ℕ) (closed : c n ≡ c 0) (simple : Simple c
           go (nought x) y = let k = opp W J p q x (ap′ x) A in without (sharp k) (passed (behind (subst (λ z. Nonneg (negℤ z)) (sym x) (nonneg-pos 0)) (positive-nonneg k)))
 
     -- ---- J on the line of the side to q, away from it: by the side to p
-    module _ (e0 : turn W q J ≡ pos 0) where
+    module _ (e0 : Turn W q J ≡ pos 0) where
       here-s : value c n closed simple s ⊕ rise p W ≡ value c n closed simple t ⊕ rise W q
       here-s = ap (λ z. value c n closed simple s ⊕ z) (sym rise-s) ∙ same-left
 
-      e1 : turn W J q ≡ pos 0
+      e1 : Turn W J q ≡ pos 0
       e1 = anti0 W q J e0
 
       by-p : (T : ℤ) → Positive T → (f : Far J p n) → ((K : ℤ) → Positive (K -ℤ pos 1) → Positive K → Shared (near W K J) (near W K p) (out K q) (out K W) → ⊥) → (r : Bool)
@@ -433,10 +434,10 @@ module _ (c : ℕ → Point) (n : ℕ) (closed : c n ≡ c 0) (simple : Simple c
       zero-behind : Nonneg (negℤ (pos 0))
       zero-behind = nonneg-pos 0
 
-      line-case : Far J p n → Sign (turn W p J) → Closely
+      line-case : Far J p n → Sign (Turn W p J) → Closely
       line-case f (plus a) =
           let x = opp′ W J q p e1 (aq e1) a in
-          let w = by-p (turn W p J) a f (λ K h K+ s. ray-apart W p J q K K+ a (behind (positive-nonneg x) (subst (λ z. Nonneg (negℤ z)) (sym e0) zero-behind)) (Rattle.outline.specs.Segments.turned-first s)) (not (rise p W)) (λ K h K+. p-right J K h K+ a) in
+          let w = by-p (Turn W p J) a f (λ K h K+ s. ray-apart W p J q K K+ a (behind (positive-nonneg x) (subst (λ z. Nonneg (negℤ z)) (sym e0) zero-behind)) (Rattle.outline.specs.Segments.turned-first s)) (not (rise p W)) (λ K h K+. p-right J K h K+ a) in
           record {
             K = w .0;
             K-big = w .1 .0;
@@ -446,11 +447,11 @@ module _ (c : ℕ → Point) (n : ℕ) (closed : c n ≡ c 0) (simple : Simple c
       line-case f (minus a) =
           let b = anti+ W p J a in
           let y = opp W J q p e1 (aq e1) b in
-          let w = by-p (turn W J p) b f (λ K h K+ s. ray-apart W J p q K K+ b (behind (subst (λ z. Nonneg (negℤ z)) (sym e1) zero-behind) (positive-nonneg y)) s) (rise p W) (λ K h K+. p-left J K h K+ b) in
+          let w = by-p (Turn W J p) b f (λ K h K+ s. ray-apart W J p q K K+ b (behind (subst (λ z. Nonneg (negℤ z)) (sym e1) zero-behind) (positive-nonneg y)) s) (rise p W) (λ K h K+. p-left J K h K+ b) in
           record {
             K = w .0;
             K-big = w .1 .0;
-            told = within (record { left = λ h. no-left (inl y) h; other = λ h k. neg-le (turn W p J) a (k .0) }) (w .1 .1 .0 ∙ here-s);
+            told = within (record { left = λ h. no-left (inl y) h; other = λ h k. neg-le (Turn W p J) a (k .0) }) (w .1 .1 .0 ∙ here-s);
             on-no-side = w .1 .1 .1;
           }
       line-case f (nought a) = absurd (fold (anti0 W p J a))
@@ -461,20 +462,20 @@ module _ (c : ℕ → Point) (n : ℕ) (closed : c n ≡ c 0) (simple : Simple c
           DE : E → E → E → E → E
           DE ax ay bx by = (ax :- v 0) :* (bx :- v 0) :+ (ay :- v 1) :* (by :- v 1)
 
-          line : turn W J p ≡ pos 0 → turn W q p ≡ pos 0
+          line : Turn W J p ≡ pos 0 → Turn W q p ≡ pos 0
           line e = zero-cancel len-J (ring2 ρ (DE (v 2) (v 3) (v 2) (v 3) :* px (v 0) (v 1) (v 4) (v 5) (v 6) (v 7)) (con (pos 0)) (DE (v 2) (v 3) (v 4) (v 5)) (px (v 0) (v 1) (v 2) (v 3) (v 6) (v 7)) (con (pos 0))
               (neg (DE (v 2) (v 3) (v 6) (v 7))) (px (v 0) (v 1) (v 2) (v 3) (v 4) (v 5)) (con (pos 0)) e e1 refl)
 
-          fold : turn W J p ≡ pos 0 → ⊥
+          fold : Turn W J p ≡ pos 0 → ⊥
           fold e = positive-not (positive-mul len-J (turns (line e)))
               (subst Nonneg (ring1 ρ (neg (DE (v 2) (v 3) (v 4) (v 5)) :* neg (DE (v 2) (v 3) (v 6) (v 7))) (neg (DE (v 2) (v 3) (v 2) (v 3) :* neg (DE (v 4) (v 5) (v 6) (v 7))))
               (neg (px (v 0) (v 1) (v 2) (v 3) (v 6) (v 7))) (px (v 0) (v 1) (v 2) (v 3) (v 4) (v 5)) (con (pos 0)) e1 refl)
               (positive-nonneg (positive-mul (aq e1) (ap′ e))))
 
     pub corner-tells : Closely
-    corner-tells = go (sign (turn W q J))
+    corner-tells = go (sign (Turn W q J))
       where
-        go : Sign (turn W q J) → Closely
+        go : Sign (Turn W q J) → Closely
         go (plus a) = left-case a (far-all J q n (le-refl n))
         go (minus a) = right-case (anti+ W q J a) (far-all J q n (le-refl n))
-        go (nought a) = line-case a (far-all J p n (le-refl n)) (sign (turn W p J))
+        go (nought a) = line-case a (far-all J p n (le-refl n)) (sign (Turn W p J))

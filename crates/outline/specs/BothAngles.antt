@@ -14,7 +14,7 @@ use Rattle.outline.specs.Seeing.{Passes}
 use Rattle.outline.specs.Parity.{pt, odd, large}
 use Rattle.outline.specs.EveryPoint.{sum2}
 use Rattle.outline.specs.Reading.{round}
-use Rattle.outline.specs.CentreTest.{middle-enough, sees-middle}
+use Rattle.outline.specs.CentreMiddle.{middle-enough, sees-middle}
 use Rattle.outline.specs.Way.{FreeOf}
 use Rattle.outline.specs.OneLook.{free-passes, free-sight}
 use Rattle.outline.specs.AtCorner.{Verdict, within, without}

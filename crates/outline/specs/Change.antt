@@ -13,13 +13,16 @@ use lib.IntN.{ℤ, pos, negℤ, _+ℤ_, _-ℤ_, _*ℤ_}
 use lib.Signed.{_≤ℤ_, _<ℤ_, ltZ, ltZ-no, ltZ-yes, <ℤ-irrefl, clashℤ}
 use Rattle.whole.specs.Ring.{E, v, con, _:+_, _:-_, _:*_, neg, ring, ring1, ring2, by-ring}
 use Rattle.whole.specs.Order.{Nonneg, Positive, nonneg-pos, nonneg-add, nonneg-mul, positive-nonneg, positive-add, positive-mul, positive-not, positive-cancel, zero-cancel, le-sub, sub-le, lt-sub, sub-lt, ≤ℤ-trans, <ℤ-le, ≤ℤ-total, Sign, plus, nought, minus, sign}
-use Rattle.outline.specs.Drawing.{Point, Shared}
-use Rattle.outline.specs.Placed.{flip, turned}
-use Rattle.outline.specs.Parity.{_⊕_, turn, higher, passes, crosses, odd}
-use Rattle.outline.specs.ParitySide.{Ltr, yes-of, no-of, inside, strip, side, ⊕-no, ⊕-same, ps-right}
-use Rattle.outline.specs.ParityRound.{⊕-swap, ⊕-chain, ltZ-sub}
-use Rattle.outline.specs.Stretch.{len2}
-use Rattle.outline.specs.Through.{Thru, through+, ⊕-comm, crosses-turn}
+use Rattle.outline.specs.Drawing.{Point, Shared, Turn}
+use Rattle.outline.specs.Segments.{exchanged, turned-second}
+use Rattle.outline.specs.Odd.{_⊕_}
+use Rattle.outline.specs.Passing.{higher, passes, crosses}
+use Rattle.outline.specs.Parity.{odd}
+use Rattle.outline.specs.Signs.{is-above, above-yes, above-no, lt-above}
+use Rattle.outline.specs.ParitySide.{inside, strip, side}
+use Rattle.outline.specs.Xor.{⊕-no, ⊕-same, ⊕-swap, ⊕-chain, ⊕-comm}
+use Rattle.outline.specs.Along.{len2}
+use Rattle.outline.specs.Through.{RunsThrough, through, crosses-turn}
 
 -- ---- one side
 pub record Changes (P Q a b : Point) (e : Bool) : Type 0 where
@@ -38,17 +41,17 @@ changes-turned P Q a b e h = record {
 pub apart-changes : (P Q a b : Point) → (Shared P Q a b → ⊥) → Changes P Q a b false
 apart-changes P Q a b apart = record {
   up = λ h. side P Q a b h apart ∙ sym (⊕-no (strip P Q a ⊕ strip P Q b));
-  down = λ h. side Q P a b h (λ s. apart (flip (turned (flip s)))) ∙ sym (⊕-no (strip Q P a ⊕ strip Q P b));
+  down = λ h. side Q P a b h (λ s. apart (exchanged (turned-second (exchanged s)))) ∙ sym (⊕-no (strip Q P a ⊕ strip Q P b));
 }
 
 ⊕-yes : (a : Bool) → not a ≡ a ⊕ true
 ⊕-yes true = refl
 ⊕-yes false = refl
 
-pub thru-changes : (P Q a b : Point) → Thru P Q a b → Changes P Q a b true
+pub thru-changes : (P Q a b : Point) → RunsThrough P Q a b → Changes P Q a b true
 thru-changes P Q a b t = record {
-  up = λ h. through+ P Q a b h t ∙ ⊕-yes (strip P Q a ⊕ strip P Q b);
-  down = λ h. ap (λ z. z ⊕ crosses P a b) (crosses-turn Q a b) ∙ ap (λ z. crosses Q b a ⊕ z) (crosses-turn P a b) ∙ through+ Q P b a h (record { t1 = t .t2; t2 = t .t1; t3 = t .t4; t4 = t .t3 })
+  up = λ h. through P Q a b h t ∙ ⊕-yes (strip P Q a ⊕ strip P Q b);
+  down = λ h. ap (λ z. z ⊕ crosses P a b) (crosses-turn Q a b) ∙ ap (λ z. crosses Q b a ⊕ z) (crosses-turn P a b) ∙ through Q P b a h (record { t1 = t .t2; t2 = t .t1; t3 = t .t4; t4 = t .t3 })
       ∙ ap not (⊕-comm (strip Q P b) (strip Q P a)) ∙ ⊕-yes (strip Q P a ⊕ strip Q P b);
 }
 
@@ -152,24 +155,24 @@ px sx sy tx ty zx zy = (tx :- sx) :* (zy :- sy) :- (ty :- sy) :* (zx :- sx)
 abbrev nil : E
 nil = con (pos 0)
 
-zero-no : {z : ℤ} → z ≡ pos 0 → Ltr z ≡ false
-zero-no e = ap Ltr e
+zero-no : {z : ℤ} → z ≡ pos 0 → is-above z ≡ false
+zero-no e = ap is-above e
 
-pub no-crossing : (z a b : Point) → turn a b z ≡ pos 0 → crosses z a b ≡ false
-no-crossing z a b e = ap (λ t. passes (higher z a) (higher z b) t (Ltr (turn b a z))) (zero-no e)
-    ∙ ap (λ t. passes (higher z a) (higher z b) false t) (zero-no {z = turn b a z} (ring1 (env z z a b) (px (v 6) (v 7) (v 4) (v 5) (v 0) (v 1)) nil (neg (con (pos 1))) (px (v 4) (v 5) (v 6) (v 7) (v 0) (v 1)) nil e refl)) ∙ no-passes (higher z a) (higher z b)
+pub no-crossing : (z a b : Point) → Turn a b z ≡ pos 0 → crosses z a b ≡ false
+no-crossing z a b e = ap (λ t. passes (higher z a) (higher z b) t (is-above (Turn b a z))) (zero-no e)
+    ∙ ap (λ t. passes (higher z a) (higher z b) false t) (zero-no {z = Turn b a z} (ring1 (env z z a b) (px (v 6) (v 7) (v 4) (v 5) (v 0) (v 1)) nil (neg (con (pos 1))) (px (v 4) (v 5) (v 6) (v 7) (v 0) (v 1)) nil e refl)) ∙ no-passes (higher z a) (higher z b)
 
-no-strip : (P Q a : Point) → turn Q P a ≡ pos 0 → strip P Q a ≡ false
+no-strip : (P Q a : Point) → Turn Q P a ≡ pos 0 → strip P Q a ≡ false
 no-strip P Q a e = ap (λ t. inside (higher P a) (higher Q a) t) (zero-no e) ∙ no-inside (higher P a) (higher Q a)
 
-module _ (P Q a b : Point) (n+ : Positive (len2 a b)) (eP : turn a b P ≡ pos 0) (eQ : turn a b Q ≡ pos 0) where
-  line-a : turn Q P a ≡ pos 0
+module _ (P Q a b : Point) (n+ : Positive (len2 a b)) (eP : Turn a b P ≡ pos 0) (eQ : Turn a b Q ≡ pos 0) where
+  line-a : Turn Q P a ≡ pos 0
   line-a = zero-cancel n+ (ring2 (env P Q a b)
       (((v 6 :- v 4) :* (v 6 :- v 4) :+ (v 7 :- v 5) :* (v 7 :- v 5)) :* px (v 2) (v 3) (v 0) (v 1) (v 4) (v 5)) nil
       (neg ((v 6 :- v 4) :* (v 4 :- v 2) :+ (v 7 :- v 5) :* (v 5 :- v 3))) (px (v 4) (v 5) (v 6) (v 7) (v 0) (v 1)) nil
       (neg ((v 6 :- v 4) :* (v 0 :- v 2) :+ (v 7 :- v 5) :* (v 1 :- v 3)) :+ ((v 6 :- v 4) :* (v 4 :- v 2) :+ (v 7 :- v 5) :* (v 5 :- v 3))) (px (v 4) (v 5) (v 6) (v 7) (v 2) (v 3)) nil eP eQ refl)
 
-  line-b : turn Q P b ≡ pos 0
+  line-b : Turn Q P b ≡ pos 0
   line-b = zero-cancel n+ (ring2 (env P Q a b)
       (((v 6 :- v 4) :* (v 6 :- v 4) :+ (v 7 :- v 5) :* (v 7 :- v 5)) :* px (v 2) (v 3) (v 0) (v 1) (v 6) (v 7)) nil
       (neg ((v 6 :- v 4) :* (v 6 :- v 2) :+ (v 7 :- v 5) :* (v 7 :- v 3))) (px (v 4) (v 5) (v 6) (v 7) (v 0) (v 1)) nil
@@ -179,7 +182,7 @@ module _ (P Q a b : Point) (n+ : Positive (len2 a b)) (eP : turn a b P ≡ pos 0
   along-up = ap (λ z. z ⊕ crosses Q a b) (no-crossing P a b eP) ∙ no-crossing Q a b eQ
       ∙ sym (ap (λ z. (z ⊕ strip P Q b) ⊕ false) (no-strip P Q a line-a) ∙ ap (λ z. z ⊕ false) (no-strip P Q b line-b))
 
-pub line-changes : (P Q a b : Point) → Positive (len2 a b) → turn a b P ≡ pos 0 → turn a b Q ≡ pos 0 → Changes P Q a b false
+pub line-changes : (P Q a b : Point) → Positive (len2 a b) → Turn a b P ≡ pos 0 → Turn a b Q ≡ pos 0 → Changes P Q a b false
 line-changes P Q a b n+ eP eQ = record { up = λ h. along-up P Q a b n+ eP eQ; down = λ h. along-up Q P a b n+ eQ eP }
 
 -- ---- a side on which Q lies, between its ends, with P strictly left of it: the side counts at Q as the points right of it (or above it) do
@@ -225,10 +228,10 @@ level : (k m a b q : ℤ) → Positive k → Positive m → k *ℤ (a -ℤ q) +�
 level k m a b q k+ m+ e h = zero-cancel (positive-add k+ (positive-nonneg m+)) (ring2 (k ∷ m ∷ a ∷ b ∷ q ∷ []) ((v 0 :+ v 1) :* (v 2 :- v 4)) nil (con (pos 1)) (v 0 :* (v 2 :- v 4) :+ v 1 :* (v 3 :- v 4)) nil (neg (v 1)) (v 3 :- v 2) nil e h refl)
 
 high-yes : (z a : Point) → z .y <ℤ a .y → higher z a ≡ true
-high-yes z a h = ltZ-sub (z .y) (a .y) ∙ yes-of (lt-sub h)
+high-yes z a h = lt-above (z .y) (a .y) ∙ above-yes (lt-sub h)
 
 high-no : (z a : Point) → a .y ≤ℤ z .y → higher z a ≡ false
-high-no z a h = ltZ-sub (z .y) (a .y) ∙ no-of (a .y -ℤ z .y) (by-ring (a .y ∷ z .y ∷ []) Nonneg (v 1 :- v 0) (neg (v 0 :- v 1)) refl (le-sub h))
+high-no z a h = lt-above (z .y) (a .y) ∙ above-no (a .y -ℤ z .y) (by-ring (a .y ∷ z .y ∷ []) Nonneg (v 1 :- v 0) (neg (v 0 :- v 1)) refl (le-sub h))
 
 -- the truth values
 up-one : (pa qb : Bool) → passes pa true true false ⊕ false ≡ (inside pa false true ⊕ inside true qb false) ⊕ true
@@ -255,7 +258,7 @@ down-two true false = refl
 down-two false true = refl
 down-two false false = refl
 
-module _ (P Q a b : Point) (i : Inner Q a b) (t+ : Positive (turn a b P)) where
+module _ (P Q a b : Point) (i : Inner Q a b) (t+ : Positive (Turn a b P)) where
   km : Positive (i .k +ℤ i .m)
   km = positive-add (i .k+) (positive-nonneg (i .m+))
 
@@ -269,28 +272,28 @@ module _ (P Q a b : Point) (i : Inner Q a b) (t+ : Positive (turn a b P)) where
   Ly = v 8 :* (v 5 :- v 3) :+ v 9 :* (v 7 :- v 3)
 
   -- Q is on the line
-  on-line : turn a b Q ≡ pos 0
+  on-line : Turn a b Q ≡ pos 0
   on-line = zero-cancel km (ring2 ρ ((v 8 :+ v 9) :* px (v 4) (v 5) (v 6) (v 7) (v 2) (v 3)) nil (v 7 :- v 5) Lx nil (neg (v 6 :- v 4)) Ly nil (i .mean-x) (i .mean-y) refl)
 
-  a-right : Positive (turn Q P a)
+  a-right : Positive (Turn Q P a)
   a-right = positive-cancel (positive-nonneg km) (subst Positive (ring2 ρ (v 9 :* px (v 4) (v 5) (v 6) (v 7) (v 0) (v 1)) ((v 8 :+ v 9) :* px (v 2) (v 3) (v 0) (v 1) (v 4) (v 5))
       (v 1 :- v 5) Lx nil (neg (v 0 :- v 4)) Ly nil (i .mean-x) (i .mean-y) refl) (positive-mul (i .m+) t+))
 
-  b-left : Positive (turn P Q b)
+  b-left : Positive (Turn P Q b)
   b-left = positive-cancel (positive-nonneg km) (subst Positive (ring2 ρ (v 8 :* px (v 4) (v 5) (v 6) (v 7) (v 0) (v 1)) ((v 8 :+ v 9) :* px (v 0) (v 1) (v 2) (v 3) (v 6) (v 7))
       (neg (v 1 :- v 7)) Lx nil (v 0 :- v 6) Ly nil (i .mean-x) (i .mean-y) refl) (positive-mul (i .k+) t+))
 
-  neg-a : Ltr (turn P Q a) ≡ false
-  neg-a = no-of (turn P Q a) (by-ring (env P Q a b) Nonneg (px (v 2) (v 3) (v 0) (v 1) (v 4) (v 5)) (neg (px (v 0) (v 1) (v 2) (v 3) (v 4) (v 5))) refl (positive-nonneg a-right))
+  neg-a : is-above (Turn P Q a) ≡ false
+  neg-a = above-no (Turn P Q a) (by-ring (env P Q a b) Nonneg (px (v 2) (v 3) (v 0) (v 1) (v 4) (v 5)) (neg (px (v 0) (v 1) (v 2) (v 3) (v 4) (v 5))) refl (positive-nonneg a-right))
 
-  neg-b : Ltr (turn Q P b) ≡ false
-  neg-b = no-of (turn Q P b) (by-ring (env P Q a b) Nonneg (px (v 0) (v 1) (v 2) (v 3) (v 6) (v 7)) (neg (px (v 2) (v 3) (v 0) (v 1) (v 6) (v 7))) refl (positive-nonneg b-left))
+  neg-b : is-above (Turn Q P b) ≡ false
+  neg-b = above-no (Turn Q P b) (by-ring (env P Q a b) Nonneg (px (v 0) (v 1) (v 2) (v 3) (v 6) (v 7)) (neg (px (v 2) (v 3) (v 0) (v 1) (v 6) (v 7))) refl (positive-nonneg b-left))
 
-  neg-t : Ltr (turn b a P) ≡ false
-  neg-t = no-of (turn b a P) (by-ring (env P Q a b) Nonneg (px (v 4) (v 5) (v 6) (v 7) (v 0) (v 1)) (neg (px (v 6) (v 7) (v 4) (v 5) (v 0) (v 1))) refl (positive-nonneg t+))
+  neg-t : is-above (Turn b a P) ≡ false
+  neg-t = above-no (Turn b a P) (by-ring (env P Q a b) Nonneg (px (v 4) (v 5) (v 6) (v 7) (v 0) (v 1)) (neg (px (v 6) (v 7) (v 4) (v 5) (v 0) (v 1))) refl (positive-nonneg t+))
 
   at-P : crosses P a b ≡ passes (higher P a) (higher P b) true false
-  at-P = ap (λ t. passes (higher P a) (higher P b) t (Ltr (turn b a P))) (yes-of t+) ∙ ap (λ t. passes (higher P a) (higher P b) true t) neg-t
+  at-P = ap (λ t. passes (higher P a) (higher P b) t (is-above (Turn b a P))) (above-yes t+) ∙ ap (λ t. passes (higher P a) (higher P b) true t) neg-t
 
   abbrev UP : Bool → Bool → Bool → Bool → Bool → Type 0
   UP pa pb qa qb e = passes pa pb true false ⊕ false ≡ (inside pa qa true ⊕ inside pb qb false) ⊕ e
@@ -300,13 +303,13 @@ module _ (P Q a b : Point) (i : Inner Q a b) (t+ : Positive (turn a b P)) where
 
   to-up : (e : Bool) → UP (higher P a) (higher P b) (higher Q a) (higher Q b) e → crosses P a b ⊕ crosses Q a b ≡ (strip P Q a ⊕ strip P Q b) ⊕ e
   to-up e h = ap (λ z. z ⊕ crosses Q a b) at-P ∙ ap (λ z. passes (higher P a) (higher P b) true false ⊕ z) (no-crossing Q a b on-line) ∙ h
-      ∙ ap (λ z. (inside (higher P a) (higher Q a) z ⊕ inside (higher P b) (higher Q b) false) ⊕ e) (sym (yes-of a-right))
+      ∙ ap (λ z. (inside (higher P a) (higher Q a) z ⊕ inside (higher P b) (higher Q b) false) ⊕ e) (sym (above-yes a-right))
       ∙ ap (λ z. (strip P Q a ⊕ inside (higher P b) (higher Q b) z) ⊕ e) (sym neg-b)
 
   to-down : (e : Bool) → DOWN (higher P a) (higher P b) (higher Q a) (higher Q b) e → crosses Q a b ⊕ crosses P a b ≡ (strip Q P a ⊕ strip Q P b) ⊕ e
   to-down e h = ap (λ z. z ⊕ crosses P a b) (no-crossing Q a b on-line) ∙ ap (λ z. false ⊕ z) at-P ∙ h
       ∙ ap (λ z. (inside (higher Q a) (higher P a) z ⊕ inside (higher Q b) (higher P b) true) ⊕ e) (sym neg-a)
-      ∙ ap (λ z. (strip Q P a ⊕ inside (higher Q b) (higher P b) z) ⊕ e) (sym (yes-of b-left))
+      ∙ ap (λ z. (strip Q P a ⊕ inside (higher Q b) (higher P b) z) ⊕ e) (sym (above-yes b-left))
 
   use-up-one : higher P b ≡ true → higher Q a ≡ false → UP (higher P a) (higher P b) (higher Q a) (higher Q b) true
   use-up-one h k = subst (λ z. UP (higher P a) z (higher Q a) (higher Q b) true) (sym h) (subst (λ z. UP (higher P a) true z (higher Q b) true) (sym k) (up-one (higher P a) (higher Q b)))
@@ -349,8 +352,8 @@ module _ (P Q a b : Point) (i : Inner Q a b) (t+ : Positive (turn a b P)) where
       between′ h = let j = inner-turned i in axis (j .k) (j .m) (b .y) (a .y) (Q .y) (j .k+) (j .m+) (j .mean-y) h
 
       going-up : {e : Bool} → Dir a b e → P .y ≤ℤ Q .y → UP (higher P a) (higher P b) (higher Q a) (higher Q b) e
-      going-up (rising h) k = let w = between h in use-up-one (high-yes P b (Rattle.outline.specs.ParitySide.le-lt k (w .1))) (high-no Q a (<ℤ-le (w .0)))
-      going-up (falling h) k = let w = between′ h in use-up-two (high-yes P a (Rattle.outline.specs.ParitySide.le-lt k (w .1))) (high-yes Q a (w .1))
+      going-up (rising h) k = let w = between h in use-up-one (high-yes P b (Rattle.whole.specs.Order.≤ℤ-<ℤ-trans k (w .1))) (high-no Q a (<ℤ-le (w .0)))
+      going-up (falling h) k = let w = between′ h in use-up-two (high-yes P a (Rattle.whole.specs.Order.≤ℤ-<ℤ-trans k (w .1))) (high-yes Q a (w .1))
       going-up (leftward e h) k = let w = below e h in use-up-one (high-yes P b (lt-le w (≤ℤ-trans (ge-of {s = a .y} {t = Q .y} (same-height e)) (ge-of {s = b .y} {t = a .y} e)))) (high-no Q a (le-of {s = a .y} {t = Q .y} (same-height e)))
       going-up (rightward e h) k = absurd (clashℤ (above e h) k)
 

@@ -11,26 +11,29 @@ use lib.IntN.{ℤ, pos, negℤ, _+ℤ_, _-ℤ_, _*ℤ_}
 use lib.Signed.{_≤ℤ_, _<ℤ_, <ℤ-irrefl}
 use Rattle.whole.specs.Ring.{E, v, con, _:+_, _:-_, _:*_, neg, ring, ring1, ring2, by-ring}
 use Rattle.whole.specs.Order.{Nonneg, Positive, nonneg-pos, positive-pos, nonneg-add, nonneg-mul, positive-nonneg, positive-add, positive-mul, positive-not, zero-cancel, le-sub, sub-le, Sign, plus, nought, minus, sign}
-use Rattle.outline.specs.Drawing.{Point, Shared, SharedOnlyAt, InsideAngle, Simple, corner, corners, after, next, prev, EndsAt, Angle, Beside}
+use Rattle.outline.specs.Drawing.{Point, Shared, SharedOnlyAt, InsideAngle, Simple, corner, corners, after, next, prev, EndsAt, Angle, Beside, Turn}
 use Rattle.outline.specs.InOrOn.{InOrOn, CentreSees}
 use Rattle.outline.specs.Placed.{On, touch-meets}
 use Rattle.outline.specs.Segments.{Dot, only-exchanged, only-second}
 use Rattle.outline.specs.Ends.{OnlyEnd, only-complete}
 use Rattle.outline.specs.Round.{next-below, prev-below, next-prev, prev-next}
 use Rattle.outline.specs.Seeing.{Passes}
-use Rattle.outline.specs.Parity.{_⊕_, turn, odd, out, large, InOn, OnSide}
-use Rattle.outline.specs.Stretch.{len2}
+use Rattle.outline.specs.Odd.{_⊕_}
+use Rattle.outline.specs.Parity.{odd, out, large, InOn, OnSide}
+use Rattle.outline.specs.Along.{len2, apart-length}
 use Rattle.outline.specs.EveryPoint.{sum2}
-use Rattle.outline.specs.EveryPoint as outline
 use Rattle.outline.specs.Near.{near}
 use Rattle.outline.specs.Reading.{round, round-inner, round-closed, in-read, in-said}
-use Rattle.outline.specs.CentreTest.{half, apart-length, corners-apart, simple-read, middle-enough, sees-middle}
+use Rattle.outline.specs.CentreTest.{half}
+use Rattle.outline.specs.CornersApart.{corners-apart, simple-read}
+use Rattle.outline.specs.CentreMiddle.{middle-enough, sees-middle}
 use Rattle.outline.specs.Way.{FreeOf}
 use Rattle.outline.specs.OneLook.{foreign, free-passes}
 use Rattle.outline.specs.Change.{Inner, px}
 use Rattle.outline.specs.Value.{Met, met, steady-value, clear-steady, left, inner-half}
 use Rattle.outline.specs.Ray.{near-inner}
 use Rattle.outline.specs.AtCorner.{Away, Verdict, within, without, Close, same-left, corner-tells}
+use Rattle.outline.specs.EveryPoint as outline
 
 -- two sides that share only W: on one line they point away from each other
 pub strictly-away : (W a b : Point) → Positive (len2 W a) → Positive (len2 W b) → OnlyEnd W a b → Away W a b

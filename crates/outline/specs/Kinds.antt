@@ -14,7 +14,7 @@ use Rattle.outline.specs.Drawing.{Point, Simple, Sound, corner, corners,
 use Rattle.outline.specs.InOrOn.{CentreSees}
 use Rattle.outline.specs.Placed.{On}
 use Rattle.outline.specs.Reading.{round, round-inner, round-closed}
-use Rattle.outline.specs.CentreTest.{simple-read}
+use Rattle.outline.specs.CornersApart.{simple-read}
 use Rattle.outline.specs.CentreSight.{centre-beside}
 use Rattle.outline.specs.Way.{FreeOf}
 use Rattle.outline.specs.OneLook.{crossed-unseen, grazed-unseen}

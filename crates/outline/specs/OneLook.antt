@@ -8,20 +8,17 @@ use native.Mathlib.Decide.{ℕ-discrete}
 use lib.IntN.{ℤ, pos, negℤ, _+ℤ_, _-ℤ_, _*ℤ_}
 use lib.Signed.{_≤ℤ_, _<ℤ_, <ℤ-irrefl, ≤ℤ-refl}
 use Rattle.whole.specs.Ring.{E, v, con, _:+_, _:-_, _:*_, neg, ring, ring1, ring2, by-ring}
-use Rattle.whole.specs.Order.{Nonneg, Positive, Sign, plus, nought, minus, sign, nonneg-pos, nonneg-add, positive-nonneg, zero-cancel, le-sub, sub-le, lt-sub, sub-lt}
-use Rattle.whole.specs.Order.{≤ℤ-total, ≤ℤ-antisym, <ℤ-le}
+use Rattle.whole.specs.Order.{Nonneg, Positive, Sign, plus, nought, minus, sign, nonneg-pos, nonneg-add, positive-nonneg, zero-cancel, le-sub, sub-le, lt-sub, sub-lt, ≤ℤ-total, ≤ℤ-antisym, <ℤ-le, diff-zero}
 use Rattle.outline.specs.Drawing.{Point, Shared, SharedOnlyAt, Turn, Simple, corner, corners, after, EndsAt, Angle, Beside, Sees}
-use Rattle.outline.specs.Seeing.{Passes}
-use Rattle.outline.specs.Segments.{exchanged, only-exchanged, OneSide, Dot, dot-nonneg}
+use Rattle.outline.specs.Seeing.{Passes, clear-sight, sees-of, begins-at-i, ends-at-i, begins-at-j, ends-at-j}
+use Rattle.outline.specs.Segments.{exchanged, only-exchanged, OneSide, Dot, dot-nonneg, turn-start, turn-end, point-eq}
 use Rattle.outline.specs.Quick.{quick-complete}
 use Rattle.outline.specs.Ends.{OnlyEnd, only-sound}
 use Rattle.outline.specs.Round.{next-below}
-use Rattle.outline.specs.Seeing.{clear-sight, sees-of, begins-at-i, ends-at-i, begins-at-j, ends-at-j}
-use Rattle.outline.specs.Placed.{On, Frac, on-of, frac-of, on-turn}
-use Rattle.outline.specs.Stretch.{len2, along, Opposite, Crosses, from-zero}
-use Rattle.outline.specs.Between.{turn-start, turn-end, on-along}
-use Rattle.outline.specs.CentreTest.{point-eq, apart-length, corners-apart}
-use Rattle.outline.specs.CentreMirror.{dot-on}
+use Rattle.outline.specs.Placed.{On, Frac, on-of, frac-of, on-turn, dot-on}
+use Rattle.outline.specs.Along.{len2, along, on-along, apart-length}
+use Rattle.outline.specs.Crossing.{Opposite, Crosses}
+use Rattle.outline.specs.CornersApart.{corners-apart}
 use Rattle.outline.specs.Way.{GrazedBy, FreeOf}
 
 -- a point on ab, and any segment from it
@@ -51,7 +48,7 @@ only-is w z a b e only o =
     point-eq (cancel (s .r) (z .x) (w .x) (e .x) (s .r-above) (sym (s .same-x) ∙ h .on-x)) (cancel (s .r) (z .y) (w .y) (e .y) (s .r-above) (sym (s .same-y) ∙ h .on-y))
   where
     cancel : (r z w e : ℤ) → Positive r → r *ℤ z +ℤ pos 0 *ℤ (e -ℤ z) ≡ r *ℤ w → z ≡ w
-    cancel r z w e h f = from-zero z w (zero-cancel h (ring1 (r ∷ z ∷ w ∷ e ∷ []) (v 0 :* (v 1 :- v 2)) (con (pos 0)) (con (pos 1)) (v 0 :* v 1 :+ con (pos 0) :* (v 3 :- v 1)) (v 0 :* v 2) f refl))
+    cancel r z w e h f = diff-zero z w (zero-cancel h (ring1 (r ∷ z ∷ w ∷ e ∷ []) (v 0 :* (v 1 :- v 2)) (con (pos 0)) (con (pos 1)) (v 0 :* v 1 :+ con (pos 0) :* (v 3 :- v 1)) (v 0 :* v 2) f refl))
 
 opposite-first : {s t : ℤ} → Opposite s t → ¬ (s ≡ pos 0)
 opposite-first (inl h) e = <ℤ-irrefl (subst Positive e (h .0))
@@ -207,10 +204,10 @@ module _ (i j a b : Point) (s : Shared i j a b) where
       flat e f = at (quick-complete s .flat (e ∙ sym f))
         where
           at : ((Dot a i j ≤ℤ pos 0) ⊎ (Dot b i j ≤ℤ pos 0)) ⊎ ((Dot i a b ≤ℤ pos 0) ⊎ (Dot j a b ≤ℤ pos 0)) → Meets
-          at (inl (inl h)) = inl (inl (dot-on a i j ij e h))
-          at (inl (inr h)) = inl (inr (dot-on b i j ij f h))
-          at (inr (inl h)) = inr (inl (inl (dot-on i a b ab (line-turn e f) h)))
-          at (inr (inr h)) = inr (inl (inr (dot-on j a b ab (sym (turns-equal e f) ∙ line-turn e f) h)))
+          at (inl (inl h)) = inl (inl (dot-on e h))
+          at (inl (inr h)) = inl (inr (dot-on f h))
+          at (inr (inl h)) = inr (inl (inl (dot-on (line-turn e f) h)))
+          at (inr (inr h)) = inr (inl (inr (dot-on (sym (turns-equal e f) ∙ line-turn e f) h)))
 
       go : Sign (Turn i j a) → Sign (Turn i j b) → Meets
       go (plus h) (plus k) = absurd (quick-complete s .first (inl (h, k)))
@@ -259,7 +256,7 @@ away e o m eo em mo om t = go (≤ℤ-total (Dot e o m) (pos 0))
 
         far : (along e o m ≤ℤ len2 e o) ⊎ (len2 e o <ℤ along e o m) → Dot e o m ≤ℤ pos 0
         far (inl k) = absurd (mo (on-along m e o (apart-length e o eo) t forth k))
-        far (inr k) = absurd (om (dot-on o e m em (ring1 ρ′ ((v 4 :- v 0) :* (v 3 :- v 1) :- (v 5 :- v 1) :* (v 2 :- v 0)) (con (pos 0)) (neg (con (pos 1))) ((v 2 :- v 0) :* (v 5 :- v 1) :- (v 3 :- v 1) :* (v 4 :- v 0)) (con (pos 0)) t refl)
+        far (inr k) = absurd (om (dot-on (ring1 ρ′ ((v 4 :- v 0) :* (v 3 :- v 1) :- (v 5 :- v 1) :* (v 2 :- v 0)) (con (pos 0)) (neg (con (pos 1))) ((v 2 :- v 0) :* (v 5 :- v 1) :- (v 3 :- v 1) :* (v 4 :- v 0)) (con (pos 0)) t refl)
             (sub-le (by-ring ρ′ Nonneg ((v 4 :- v 0) :* (v 2 :- v 0) :+ (v 5 :- v 1) :* (v 3 :- v 1) :- ((v 2 :- v 0) :* (v 2 :- v 0) :+ (v 3 :- v 1) :* (v 3 :- v 1)))
             (con (pos 0) :- ((v 0 :- v 2) :* (v 4 :- v 2) :+ (v 1 :- v 3) :* (v 5 :- v 3))) refl (positive-nonneg (lt-sub k))))))
 

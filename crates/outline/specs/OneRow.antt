@@ -12,10 +12,10 @@ use lib.IntN.{ℤ, pos, negsuc, negℤ, _+ℤ_, _-ℤ_, _*ℤ_, pos-+ℤ-pos}
 use lib.Signed.{_≤ℤ_, _<ℤ_, ltZ, <ℤ-irrefl, ≤ℤ-refl, clashℤ}
 use Rattle.whole.specs.Ring.{E, v, con, _:+_, _:-_, _:*_, neg, ring, ring1, ring2, by-ring}
 use Rattle.whole.specs.Order.{Nonneg, Positive, nonneg-pos, positive-pos, nonneg-add, nonneg-mul, positive-nonneg, positive-add, positive-not, le-sub, sub-le, lt-sub, sub-lt, ≤ℤ-trans, ≤ℤ-<ℤ-trans, ≤ℤ-total, <ℤ-le, Sign, plus, nought, minus, sign}
-use Rattle.outline.specs.Parity.{_⊕_}
-use Rattle.outline.specs.ParitySide.{⊕-no, ⊕-same, yes-of, no-of, Ltr}
-use Rattle.outline.specs.ParityRound.{⊕-chain, ltZ-sub}
-use Rattle.outline.specs.Between.{last}
+use Rattle.outline.specs.Odd.{_⊕_}
+use Rattle.outline.specs.Xor.{⊕-no, ⊕-same, ⊕-chain}
+use Rattle.outline.specs.Signs.{above-yes, above-no, is-above, lt-above}
+use Rattle.outline.specs.Topmost.{last}
 use Rattle.outline.specs.Change.{xsum}
 
 abbrev nil : E
@@ -142,10 +142,10 @@ both-yes true = refl
 both-yes false = refl
 
 pub lt-true : (a b : ℤ) → a <ℤ b → ltZ a b ≡ true
-lt-true a b h = ltZ-sub a b ∙ yes-of (lt-sub h)
+lt-true a b h = lt-above a b ∙ above-yes (lt-sub h)
 
 pub lt-false : (a b : ℤ) → b ≤ℤ a → ltZ a b ≡ false
-lt-false a b h = ltZ-sub a b ∙ no-of (b -ℤ a) (by-ring (a ∷ b ∷ []) Nonneg (v 0 :- v 1) (neg (v 1 :- v 0)) refl (le-sub h))
+lt-false a b h = lt-above a b ∙ above-no (b -ℤ a) (by-ring (a ∷ b ∷ []) Nonneg (v 0 :- v 1) (neg (v 1 :- v 0)) refl (le-sub h))
 
 -- ---- the row
 module _ (hi : ℕ → Bool) (X : ℕ → ℤ) where

@@ -14,12 +14,12 @@ use Rattle.outline.specs.InOrOn.{Spot, OnSegment, CentreSees}
 use Rattle.outline.specs.Segments.{Dot}
 use Rattle.outline.specs.Ends.{OnlyEnd, only-complete}
 use Rattle.outline.specs.Round.{prev-below, next-prev}
-use Rattle.outline.specs.Stretch.{len2}
-use Rattle.outline.specs.Parity.{turn, odd, out, large, InOn}
+use Rattle.outline.specs.Along.{len2, apart-length}
+use Rattle.outline.specs.Parity.{odd, out, large, InOn}
 use Rattle.outline.specs.Near.{near}
 use Rattle.outline.specs.Reading.{round, round-inner, round-closed, in-read}
 use Rattle.outline.specs.CentreSight.{centre-mutual}
-use Rattle.outline.specs.CentreTest.{apart-length, corners-apart}
+use Rattle.outline.specs.CornersApart.{corners-apart}
 use Rattle.outline.specs.Seeing.{Passes}
 use Rattle.outline.specs.Way.{FreeOf}
 use Rattle.outline.specs.OneLook.{free-passes}
@@ -46,10 +46,10 @@ neg-le : {X : Type 0} (z : ℤ) → Positive (negℤ z) → pos 0 ≤ℤ z → X
 neg-le z h k = positive-not h (by-ring (z ∷ []) Nonneg (v 0) (neg (neg (v 0))) refl k)
 
 module _ (p W q J : Point) where
-  turn-here : Positive (turn p W q) → Positive (turn W q p)
+  turn-here : Positive (Turn p W q) → Positive (Turn W q p)
   turn-here h = subst Positive (cycle W p q) h
 
-  turn-there : Positive (turn W q p) → Positive (turn p W q)
+  turn-there : Positive (Turn W q p) → Positive (Turn p W q)
   turn-there h = subst Positive (sym (cycle W p q)) h
 
   pub outside-not : OutCases p W q J → ¬ InsideAngle p W q J
@@ -73,15 +73,15 @@ module _ (p W q J : Point) where
   len-nonneg = nonneg-add (square-nonneg (J .x -ℤ W .x)) (square-nonneg (J .y -ℤ W .y))
 
   -- J along the side to q, or to p: the turn to the other side is the side's
-  along-q : turn W J q ≡ pos 0 → Positive (Dot W J q) → Positive (turn W p J) → Positive (turn W p q)
+  along-q : Turn W J q ≡ pos 0 → Positive (Dot W J q) → Positive (Turn W p J) → Positive (Turn W p q)
   unfolding ρ DE
   along-q e o h = positive-cancel len-nonneg (subst Positive (ring1 ρ (DE (v 2) (v 3) (v 4) (v 5) :* px (v 0) (v 1) (v 6) (v 7) (v 2) (v 3)) (DE (v 2) (v 3) (v 2) (v 3) :* px (v 0) (v 1) (v 6) (v 7) (v 4) (v 5)) (neg (DE (v 2) (v 3) (v 6) (v 7))) tJq (con (pos 0)) e refl) (positive-mul o h))
 
-  along-p : turn W J p ≡ pos 0 → Positive (Dot W J p) → Positive (turn W J q) → Positive (turn W p q)
+  along-p : Turn W J p ≡ pos 0 → Positive (Dot W J p) → Positive (Turn W J q) → Positive (Turn W p q)
   unfolding ρ DE
   along-p e o h = positive-cancel len-nonneg (subst Positive (ring1 ρ (DE (v 2) (v 3) (v 6) (v 7) :* tJq) (DE (v 2) (v 3) (v 2) (v 3) :* px (v 0) (v 1) (v 6) (v 7) (v 4) (v 5)) (DE (v 2) (v 3) (v 4) (v 5)) tJp (con (pos 0)) e refl) (positive-mul o h))
 
-  not-left : {X : Type 0} → Positive (Turn p W q) → Positive (turn W p q) → X
+  not-left : {X : Type 0} → Positive (Turn p W q) → Positive (Turn W p q) → X
   not-left h k = both-signs (turn-here h) (anti- W p q k)
 
   pub outside-q : OutCases p W q J → OnlyEnd W J q
@@ -105,11 +105,11 @@ module _ (p W q J : Point) where
   pub outside-apart : OutCases p W q J → ¬ (W ≡ J)
   outside-apart o e = go o
     where
-      at-q : Positive (turn W J q) → ⊥
-      at-q h = is-pos (subst (λ w. Positive (turn W w q)) (sym e) h) (ring (W .x ∷ W .y ∷ q .x ∷ q .y ∷ []) (px (v 0) (v 1) (v 0) (v 1) (v 2) (v 3)) (con (pos 0)) refl)
+      at-q : Positive (Turn W J q) → ⊥
+      at-q h = is-pos (subst (λ w. Positive (Turn W w q)) (sym e) h) (ring (W .x ∷ W .y ∷ q .x ∷ q .y ∷ []) (px (v 0) (v 1) (v 0) (v 1) (v 2) (v 3)) (con (pos 0)) refl)
 
-      at-p : Positive (turn W p J) → ⊥
-      at-p h = is-pos (subst (λ w. Positive (turn W p w)) (sym e) h) (ring (W .x ∷ W .y ∷ p .x ∷ p .y ∷ []) (px (v 0) (v 1) (v 2) (v 3) (v 0) (v 1)) (con (pos 0)) refl)
+      at-p : Positive (Turn W p J) → ⊥
+      at-p h = is-pos (subst (λ w. Positive (Turn W p w)) (sym e) h) (ring (W .x ∷ W .y ∷ p .x ∷ p .y ∷ []) (px (v 0) (v 1) (v 2) (v 3) (v 0) (v 1)) (con (pos 0)) refl)
 
       go : OutCases p W q J → ⊥
       go (inl (h, inl a)) = at-q a
@@ -118,20 +118,20 @@ module _ (p W q J : Point) where
 
   -- ---- along neither side: inside or strictly outside
   module _ (len-J : Positive (len2 W J)) (aq : Away W J q) (ap′ : Away W J p) (straight : Away W q p) where
-    line : turn W J p ≡ pos 0 → turn W J q ≡ pos 0 → turn W q p ≡ pos 0
+    line : Turn W J p ≡ pos 0 → Turn W J q ≡ pos 0 → Turn W q p ≡ pos 0
     unfolding ρ DE
     line e f = zero-cancel len-J (ring2 ρ (DE (v 2) (v 3) (v 2) (v 3) :* px (v 0) (v 1) (v 4) (v 5) (v 6) (v 7)) (con (pos 0)) (DE (v 2) (v 3) (v 4) (v 5)) tJp (con (pos 0)) (neg (DE (v 2) (v 3) (v 6) (v 7))) tJq (con (pos 0)) e f refl)
 
-    fold : turn W J p ≡ pos 0 → turn W J q ≡ pos 0 → ⊥
+    fold : Turn W J p ≡ pos 0 → Turn W J q ≡ pos 0 → ⊥
     unfolding ρ DE
     fold e f = positive-not (positive-mul len-J (straight (line e f)))
         (subst Nonneg (ring1 ρ (neg (DE (v 2) (v 3) (v 4) (v 5)) :* neg (DE (v 2) (v 3) (v 6) (v 7))) (neg (DE (v 2) (v 3) (v 2) (v 3) :* neg (DE (v 4) (v 5) (v 6) (v 7)))) (neg tJp) tJq (con (pos 0)) f refl)
         (positive-nonneg (positive-mul (aq f) (ap′ e))))
 
     pub inside-else : ¬ OutCases p W q J → InsideAngle p W q J
-    inside-else no-out = go (sign (turn W q p))
+    inside-else no-out = go (sign (Turn W q p))
       where
-        sharp : Positive (turn W q p) → Sign (turn W q J) → Sign (turn W J p) → InsideAngle p W q J
+        sharp : Positive (Turn W q p) → Sign (Turn W q J) → Sign (Turn W J p) → InsideAngle p W q J
         sharp h (plus a) (plus b) = record { left = λ k. (a, b); other = λ k. absurd (k (turn-there h)) }
         sharp h (minus a) t = absurd (no-out (inl (turn-there h, inl (anti+ W q J a))))
         sharp h (plus a) (minus b) = absurd (no-out (inl (turn-there h, inr (anti+ W J p b))))
@@ -140,20 +140,20 @@ module _ (p W q J : Point) where
         sharp h (nought a) (plus b) = both-signs h (opp W J q p (anti0 W q J a) (aq (anti0 W q J a)) b)
         sharp h (nought a) (nought b) = is-pos h (line b (anti0 W q J a))
 
-        wide : ¬ Positive (turn W q p) → InsideAngle p W q J
-        wide h = record { left = λ k. absurd (h (turn-here k)); other = λ k w. no-both k w (sign (turn W p J)) (sign (turn W J q)) }
+        wide : ¬ Positive (Turn W q p) → InsideAngle p W q J
+        wide h = record { left = λ k. absurd (h (turn-here k)); other = λ k w. no-both k w (sign (Turn W p J)) (sign (Turn W J q)) }
           where
-            no-both : ¬ Positive (Turn p W q) → (pos 0 ≤ℤ turn W p J) × (pos 0 ≤ℤ turn W J q) → Sign (turn W p J) → Sign (turn W J q) → ⊥
+            no-both : ¬ Positive (Turn p W q) → (pos 0 ≤ℤ Turn W p J) × (pos 0 ≤ℤ Turn W J q) → Sign (Turn W p J) → Sign (Turn W J q) → ⊥
             no-both k w (plus a) (plus b) = no-out (inr (k, (a, b)))
-            no-both k w (minus a) t = neg-le (turn W p J) a (w .0)
-            no-both k w (plus a) (minus b) = neg-le (turn W J q) b (w .1)
-            no-both k w (nought a) (minus b) = neg-le (turn W J q) b (w .1)
+            no-both k w (minus a) t = neg-le (Turn W p J) a (w .0)
+            no-both k w (plus a) (minus b) = neg-le (Turn W J q) b (w .1)
+            no-both k w (nought a) (minus b) = neg-le (Turn W J q) b (w .1)
             no-both k w (plus a) (nought b) = h (anti+ W p q (opp′ W J q p b (aq b) a))
             no-both k w (nought a) (plus b) = h (anti+ W p q (opp W J p q (anti0 W p J a) (ap′ (anti0 W p J a)) b))
             no-both k w (nought a) (nought b) = fold (anti0 W p J a) b
 
-        go : Sign (turn W q p) → InsideAngle p W q J
-        go (plus h) = sharp h (sign (turn W q J)) (sign (turn W J p))
+        go : Sign (Turn W q p) → InsideAngle p W q J
+        go (plus h) = sharp h (sign (Turn W q J)) (sign (Turn W J p))
         go (minus h) = wide (λ k. both-signs k h)
         go (nought h) = wide (λ k. is-pos k h)
 

@@ -8,7 +8,7 @@ use lib.Signed.{_≤ℤ_, _<ℤ_, ltZ}
 use Rattle.whole.specs.Ring.{E, _:+_, _:-_, _:*_, ring, ring1, by-ring}
 use Rattle.whole.specs.Order.{Nonneg, Positive, positive-nonneg, positive-mul, positive-cancel}
 use Rattle.whole.specs.Order.{le-sub, sub-le, lt-sub, sub-lt}
-use Rattle.whole.specs.Order.{≤ℤ-total, ≤ℤ-<ℤ-trans}
+use Rattle.whole.specs.Order.{≤ℤ-<ℤ-trans, not-less}
 use Rattle.outline.specs.Drawing.{Point, Turn}
 use Rattle.outline.specs.InOrOn.{Spot, Higher, OneEndHigher, PassesRight}
 use Rattle.outline.specs.Tells.{Tells, as-well, never}
@@ -100,13 +100,6 @@ module _ (z : Spot) (a b : Point) where
         (R :* B .x :- R :* A .x) (R :* At Q (A .y) P (B .y)) (Q :* C .y) (t .height) refl)
         (positive-mul rises (lt-sub (t .larger))))
 
-not-higher : (z : Spot) (a : Point) → ¬ Higher z a → (z .r *ℤ a .y) ≤ℤ z .y
-not-higher z a n = go (≤ℤ-total (z .r *ℤ a .y) (z .y))
-  where
-    go : ((z .r *ℤ a .y) ≤ℤ z .y) ⊎ (z .y <ℤ (z .r *ℤ a .y)) → (z .r *ℤ a .y) ≤ℤ z .y
-    go (inl h) = h
-    go (inr h) = absurd (n h)
-
 pub passing : (z : Spot) (a b : Point) →
     Tells (crosses (top z) (grown z a) (grown z b)) (OneEndHigher z a b × PassesRight z a b)
 passing z a b =
@@ -127,12 +120,12 @@ passing z a b =
     go true true h k = never (λ p. both (h .sure tt) (k .sure tt) (p .0))
     go false false h k = never (λ p. neither (λ x. h .told x) (λ x. k .told x) (p .0))
     go false true h k =
-        let low = not-higher z a (λ x. h .told x) in
+        let low = not-less (λ x. h .told x) in
         as-well (lt-tells (pos 0) (Turn (grown z a) (grown z b) (top z)))
         (λ t. (inr ((λ x. h .told x), k .sure tt), left-right z a b low (k .sure tt) t))
         (λ p. right-left z a b low (k .sure tt) (p .1))
     go true false h k =
-        let low = not-higher z b (λ x. k .told x) in
+        let low = not-less (λ x. k .told x) in
         as-well (lt-tells (pos 0) (Turn (grown z b) (grown z a) (top z)))
         (λ t. (inl (h .sure tt, λ x. k .told x), turned z b a (left-right z b a low (h .sure tt) t)))
         (λ p. right-left z b a low (h .sure tt) (turned z a b (p .1)))

@@ -7,12 +7,12 @@ use lib.IntN.{ℤ, pos, negℤ, _+ℤ_, _-ℤ_, _*ℤ_}
 use lib.Signed.{_≤ℤ_, _<ℤ_, <ℤ-irrefl}
 use Rattle.whole.specs.Ring.{E, v, con, _:+_, _:-_, _:*_, neg, ring, ring1, ring2, by-ring}
 use Rattle.whole.specs.Order.{Nonneg, Positive, nonneg-pos, positive-pos, nonneg-add, nonneg-mul, positive-nonneg, positive-add, positive-mul, positive-pred, positive-not, positive-cancel, zero-cancel, le-sub, sub-le}
-use Rattle.outline.specs.Drawing.{Point, Shared}
+use Rattle.outline.specs.Drawing.{Point, Shared, Turn}
 use Rattle.outline.specs.Placed.{On, Frac, frac-of}
 use Rattle.outline.specs.Segments.{one-side, turned-first, exchanged, Dot}
-use Rattle.outline.specs.Parity.{turn, out}
-use Rattle.outline.specs.Stretch.{len2}
-use Rattle.outline.specs.Through.{Thru}
+use Rattle.outline.specs.Parity.{out}
+use Rattle.outline.specs.Along.{len2}
+use Rattle.outline.specs.Through.{RunsThrough}
 use Rattle.outline.specs.Near.{near}
 use Rattle.outline.specs.Change.{Inner, px}
 
@@ -34,20 +34,20 @@ abbrev tba : E
 tba = px (v 0) (v 1) (v 4) (v 5) (v 2) (v 3)
 
 module _ (W a b : Point) where
-  pub anti+ : Positive (negℤ (turn W a b)) → Positive (turn W b a)
+  pub anti+ : Positive (negℤ (Turn W a b)) → Positive (Turn W b a)
   anti+ h = by-ring (env3 W a b) Positive (neg tab) tba refl h
 
-  pub anti- : Positive (turn W a b) → Positive (negℤ (turn W b a))
+  pub anti- : Positive (Turn W a b) → Positive (negℤ (Turn W b a))
   anti- h = by-ring (env3 W a b) Positive tab (neg tba) refl h
 
-  pub anti0 : turn W a b ≡ pos 0 → turn W b a ≡ pos 0
+  pub anti0 : Turn W a b ≡ pos 0 → Turn W b a ≡ pos 0
   anti0 e = ring1 (env3 W a b) tba nil (neg one) tab nil e refl
 
-  pub cycle : turn a W b ≡ turn W b a
+  pub cycle : Turn a W b ≡ Turn W b a
   cycle = ring (env3 W a b) (px (v 2) (v 3) (v 0) (v 1) (v 4) (v 5)) tba refl
 
 -- W a b z are 0 to 7
-module _ (W a b z : Point) (e : turn W a b ≡ pos 0) (o : Positive (negℤ (Dot W a b))) where
+module _ (W a b z : Point) (e : Turn W a b ≡ pos 0) (o : Positive (negℤ (Dot W a b))) where
   abbrev ρ : List ℤ
   ρ = W .x ∷ W .y ∷ a .x ∷ a .y ∷ b .x ∷ b .y ∷ z .x ∷ z .y ∷ []
 
@@ -64,10 +64,10 @@ module _ (W a b z : Point) (e : turn W a b ≡ pos 0) (o : Positive (negℤ (Dot
   len-nonneg = nonneg-add (Rattle.whole.specs.Order.square-nonneg (a .x -ℤ W .x)) (Rattle.whole.specs.Order.square-nonneg (a .y -ℤ W .y))
 
   -- b points away from a: what is left of a is right of b
-  pub opp : Positive (turn W a z) → Positive (negℤ (turn W b z))
+  pub opp : Positive (Turn W a z) → Positive (negℤ (Turn W b z))
   opp h = positive-cancel len-nonneg (subst Positive (ring1 ρ (neg DAB :* px (v 0) (v 1) (v 2) (v 3) (v 6) (v 7)) (L2 :* neg (px (v 0) (v 1) (v 4) (v 5) (v 6) (v 7))) (neg DAZ) tab nil e refl) (positive-mul o h))
 
-  pub opp′ : Positive (turn W z a) → Positive (negℤ (turn W z b))
+  pub opp′ : Positive (Turn W z a) → Positive (negℤ (Turn W z b))
   opp′ h = positive-cancel len-nonneg (subst Positive (ring1 ρ (neg DAB :* px (v 0) (v 1) (v 6) (v 7) (v 2) (v 3)) (L2 :* neg (px (v 0) (v 1) (v 6) (v 7) (v 4) (v 5))) DAZ tab nil e refl) (positive-mul o h))
 
 -- ---- near points
@@ -91,19 +91,19 @@ module _ (W I J e : Point) (K : ℤ) where
   abbrev TeJ : E
   TeJ = px (v 0) (v 1) (v 6) (v 7) (v 4) (v 5)
 
-  pub from-W : K *ℤ turn W e I ≡ turn (out K W) (out K e) (near W K I)
+  pub from-W : K *ℤ Turn W e I ≡ Turn (out K W) (out K e) (near W K I)
   from-W = ring π (v 8 :* TeI) (px (v 8 :* v 0) (v 8 :* v 1) (v 8 :* v 6) (v 8 :* v 7) (nx (v 0) (v 2)) (nx (v 1) (v 3))) refl
 
-  pub to-W : K *ℤ turn W I e ≡ turn (out K e) (out K W) (near W K I)
+  pub to-W : K *ℤ Turn W I e ≡ Turn (out K e) (out K W) (near W K I)
   to-W = ring π (v 8 :* TIe) (px (v 8 :* v 6) (v 8 :* v 7) (v 8 :* v 0) (v 8 :* v 1) (nx (v 0) (v 2)) (nx (v 1) (v 3))) refl
 
-  at-W : turn W I J ≡ turn (near W K I) (near W K J) (out K W)
+  at-W : Turn W I J ≡ Turn (near W K I) (near W K J) (out K W)
   at-W = ring π TIJ (px (nx (v 0) (v 2)) (nx (v 1) (v 3)) (nx (v 0) (v 4)) (nx (v 1) (v 5)) (v 8 :* v 0) (v 8 :* v 1)) refl
 
-  at-e : turn W I J -ℤ K *ℤ (turn W I e +ℤ turn W e J) ≡ turn (near W K I) (near W K J) (out K e)
+  at-e : Turn W I J -ℤ K *ℤ (Turn W I e +ℤ Turn W e J) ≡ Turn (near W K I) (near W K J) (out K e)
   at-e = ring π (TIJ :- v 8 :* (TIe :+ TeJ)) (px (nx (v 0) (v 2)) (nx (v 1) (v 3)) (nx (v 0) (v 4)) (nx (v 1) (v 5)) (v 8 :* v 6) (v 8 :* v 7)) refl
 
-  at-e′ : K *ℤ (turn W I e +ℤ turn W e J) -ℤ turn W I J ≡ turn (near W K J) (near W K I) (out K e)
+  at-e′ : K *ℤ (Turn W I e +ℤ Turn W e J) -ℤ Turn W I J ≡ Turn (near W K J) (near W K I) (out K e)
   at-e′ = ring π (v 8 :* (TIe :+ TeJ) :- TIJ) (px (nx (v 0) (v 4)) (nx (v 1) (v 5)) (nx (v 0) (v 2)) (nx (v 1) (v 3)) (v 8 :* v 6) (v 8 :* v 7)) refl
 
 -- the side to e is not between I and J
@@ -112,10 +112,10 @@ pub data Beyond (x y : ℤ) : Type 0 where
   before : Positive (negℤ x) → Positive y → Beyond x y
   after : Positive x → Positive (negℤ y) → Beyond x y
 
-module _ (W I J e : Point) (K : ℤ) (K+ : Positive K) (T+ : Positive (turn W I J)) where
-  pub ray-apart : Beyond (turn W I e) (turn W e J) → Shared (near W K I) (near W K J) (out K e) (out K W) → ⊥
+module _ (W I J e : Point) (K : ℤ) (K+ : Positive K) (T+ : Positive (Turn W I J)) where
+  pub ray-apart : Beyond (Turn W I e) (Turn W e J) → Shared (near W K I) (near W K J) (out K e) (out K W) → ⊥
   ray-apart (behind hx hy) s = one-side (inl (
-    subst Positive (at-e W I J e K) (by-ring (turn W I J ∷ K ∷ turn W I e ∷ turn W e J ∷ []) Positive (v 0 :+ v 1 :* (neg (v 2) :+ neg (v 3))) (v 0 :- v 1 :* (v 2 :+ v 3)) refl (positive-add T+ (nonneg-mul (positive-nonneg K+) (nonneg-add hx hy)))),
+    subst Positive (at-e W I J e K) (by-ring (Turn W I J ∷ K ∷ Turn W I e ∷ Turn W e J ∷ []) Positive (v 0 :+ v 1 :* (neg (v 2) :+ neg (v 3))) (v 0 :- v 1 :* (v 2 :+ v 3)) refl (positive-add T+ (nonneg-mul (positive-nonneg K+) (nonneg-add hx hy)))),
     subst Positive (at-W W I J e K) T+)) s
   ray-apart (before hx hy) s = one-side (inl (
     subst Positive (from-W W I J e K) (positive-mul K+ (anti+ W I e hx)),
@@ -124,9 +124,9 @@ module _ (W I J e : Point) (K : ℤ) (K+ : Positive K) (T+ : Positive (turn W I 
     subst Positive (to-W W I J e K) (positive-mul K+ hx),
     subst Positive (to-W W J I e K) (positive-mul K+ (anti+ W e J hy)))) (exchanged s)
 
-  pub ray-thru : Positive (turn W I e) → Positive (turn W e J) → turn W I J ≤ℤ K → Thru (near W K I) (near W K J) (out K e) (out K W)
+  pub ray-thru : Positive (Turn W I e) → Positive (Turn W e J) → Turn W I J ≤ℤ K → RunsThrough (near W K I) (near W K J) (out K e) (out K W)
   ray-thru hx hy h = record {
-    t1 = subst Positive (at-e′ W I J e K) (by-ring (turn W I J ∷ K ∷ turn W I e ∷ turn W e J ∷ []) Positive (v 1 :+ (v 1 :* (v 2 :- one) :+ v 1 :* (v 3 :- one) :+ (v 1 :- v 0))) (v 1 :* (v 2 :+ v 3) :- v 0) refl
+    t1 = subst Positive (at-e′ W I J e K) (by-ring (Turn W I J ∷ K ∷ Turn W I e ∷ Turn W e J ∷ []) Positive (v 1 :+ (v 1 :* (v 2 :- one) :+ v 1 :* (v 3 :- one) :+ (v 1 :- v 0))) (v 1 :* (v 2 :+ v 3) :- v 0) refl
         (positive-add K+ (nonneg-add (nonneg-add (nonneg-mul (positive-nonneg K+) (positive-pred hx)) (nonneg-mul (positive-nonneg K+) (positive-pred hy))) (le-sub h))));
     t2 = subst Positive (at-W W I J e K) T+;
     t3 = subst Positive (to-W W I J e K) (positive-mul K+ hx);
@@ -145,7 +145,7 @@ near-inner W q K h = record {
     ax w q = ring (K ∷ w ∷ q ∷ []) ((v 0 :- one) :* (v 0 :* v 1 :- (v 0 :* v 1 :+ (v 2 :- v 1))) :+ one :* (v 0 :* v 2 :- (v 0 :* v 1 :+ (v 2 :- v 1)))) nil refl
 
 -- and the near point of a direction that does not point along the side is not on it
-pub ray-off : (W q J : Point) (K : ℤ) → Positive K → (turn W J q ≡ pos 0 → Positive (negℤ (Dot W J q))) → On (near W K J) (out K W) (out K q) → ⊥
+pub ray-off : (W q J : Point) (K : ℤ) → Positive K → (Turn W J q ≡ pos 0 → Positive (negℤ (Dot W J q))) → On (near W K J) (out K W) (out K q) → ⊥
 ray-off W q J K K+ away o = positive-not (positive-mul (f .k+) (away (anti0 W q J (zero-cancel K+ (from-W W J J q K ∙ o .line)))))
     (subst Nonneg (ring2 (W .x ∷ W .y ∷ J .x ∷ J .y ∷ q .x ∷ q .y ∷ K ∷ f .m ∷ f .k ∷ []) (v 7 :* (v 6 :* ((v 4 :- v 0) :* (v 4 :- v 0) :+ (v 5 :- v 1) :* (v 5 :- v 1))))
     (neg (v 8 :* neg ((v 2 :- v 0) :* (v 4 :- v 0) :+ (v 3 :- v 1) :* (v 5 :- v 1))))

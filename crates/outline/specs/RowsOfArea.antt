@@ -13,11 +13,13 @@ use lib.IntN.{ℤ, pos, negℤ, _+ℤ_, _-ℤ_, _*ℤ_}
 use lib.Signed.{_≤ℤ_, _<ℤ_, ltZ, ltZ-yes, ltZ-no, <ℤ-irrefl, ≤ℤ-refl, clashℤ}
 use Rattle.whole.specs.Ring.{E, v, con, _:+_, _:-_, _:*_, neg, ring, ring1, ring2, by-ring}
 use Rattle.whole.specs.Order.{Nonneg, Positive, nonneg-pos, positive-pos, nonneg-add, nonneg-mul, nonneg-cancel, positive-nonneg, positive-add, positive-mul, positive-pred, positive-not, le-sub, sub-le, lt-sub, sub-lt, ≤ℤ-trans, ≤ℤ-<ℤ-trans, ≤ℤ-total, <ℤ-le, le-cancel, Sign, plus, nought, minus, sign}
-use Rattle.outline.specs.Drawing.{Point, Shared}
-use Rattle.outline.specs.Parity.{_⊕_, pt, turn, higher, passes, crosses, odd, out, large}
-use Rattle.outline.specs.ParitySide.{Ltr}
-use Rattle.outline.specs.ParityRound.{⊕-zero, Ltr-scale, ltZ-sub}
-use Rattle.outline.specs.Between.{last}
+use Rattle.outline.specs.Drawing.{Point, Shared, Turn}
+use Rattle.outline.specs.Odd.{_⊕_}
+use Rattle.outline.specs.Parity.{pt, odd, out, large}
+use Rattle.outline.specs.Passing.{higher, passes, crosses}
+use Rattle.outline.specs.Signs.{is-above, above-scale, lt-above}
+use Rattle.outline.specs.Xor.{⊕-zero}
+use Rattle.outline.specs.Topmost.{last}
 use Rattle.outline.specs.EveryPoint.{Simple}
 use Rattle.outline.specs.Change.{Inner, Dir, rising, falling, rise, direction, dir-unique, xsum}
 use Rattle.outline.specs.Value.{Met, met, value, value-of, left, no-end}
@@ -131,17 +133,17 @@ module _ (D e : ℤ) (D+ : Positive D) (a b : Point) (h : ℤ) where
     TE : E → E → E → E → E → E → E
     TE sx sy tx ty zx zy = (tx :- sx) :* (zy :- sy) :- (ty :- sy) :* (zx :- sx)
 
-    up-turn : (X : ℤ) → Positive (b .y -ℤ a .y) → Ltr (turn (out K2 a) (out K2 b) (pt X height)) ≡ ltZ X place
+    up-turn : (X : ℤ) → Positive (b .y -ℤ a .y) → is-above (Turn (out K2 a) (out K2 b) (pt X height)) ≡ ltZ X place
     unfolding TE
-    up-turn X k = ap Ltr (ring1 (ρ X) (TE (K2E :* v 2) (K2E :* v 3) (K2E :* v 4) (K2E :* v 5) (v 7) HE) (K2E :* (v 5 :- v 3) :* (XE :- v 7))
+    up-turn X k = ap is-above (ring1 (ρ X) (TE (K2E :* v 2) (K2E :* v 3) (K2E :* v 4) (K2E :* v 5) (v 7) HE) (K2E :* (v 5 :- v 3) :* (XE :- v 7))
         (neg (K2E :* ((v 4 :- v 2) :* (two :* v 6 :+ one :- two :* v 3)))) Lfit (v 0) (fit-up k) refl)
-        ∙ Ltr-scale (K2 *ℤ (b .y -ℤ a .y)) (place -ℤ X) (positive-mul K2+ k) ∙ sym (ltZ-sub X place)
+        ∙ above-scale (K2 *ℤ (b .y -ℤ a .y)) (place -ℤ X) (positive-mul K2+ k) ∙ sym (lt-above X place)
 
-    down-turn : (X : ℤ) → Positive (a .y -ℤ b .y) → Ltr (turn (out K2 b) (out K2 a) (pt X height)) ≡ ltZ X place
+    down-turn : (X : ℤ) → Positive (a .y -ℤ b .y) → is-above (Turn (out K2 b) (out K2 a) (pt X height)) ≡ ltZ X place
     unfolding TE
-    down-turn X k = ap Ltr (ring1 (ρ X) (TE (K2E :* v 4) (K2E :* v 5) (K2E :* v 2) (K2E :* v 3) (v 7) HE) (K2E :* (v 3 :- v 5) :* (XE :- v 7))
+    down-turn X k = ap is-above (ring1 (ρ X) (TE (K2E :* v 4) (K2E :* v 5) (K2E :* v 2) (K2E :* v 3) (v 7) HE) (K2E :* (v 3 :- v 5) :* (XE :- v 7))
         (K2E :* ((v 4 :- v 2) :* (two :* v 6 :+ one :- two :* v 3))) Lfit (v 0) (fit-down k) refl)
-        ∙ Ltr-scale (K2 *ℤ (a .y -ℤ b .y)) (place -ℤ X) (positive-mul K2+ k) ∙ sym (ltZ-sub X place)
+        ∙ above-scale (K2 *ℤ (a .y -ℤ b .y)) (place -ℤ X) (positive-mul K2+ k) ∙ sym (lt-above X place)
 
     yes-lt : (s t : ℤ) → ltZ s t ≡ true → s <ℤ t
     yes-lt s t e = ltZ-yes (subst T (sym e) tt)
@@ -159,10 +161,10 @@ module _ (D e : ℤ) (D+ : Positive D) (a b : Point) (h : ℤ) where
     crosses-row X = ap (λ s. passes s (higher (pt X height) (out K2 b)) up down) (higher-row X a) ∙ ap (λ s. passes (ltZ h (a .y)) s up down) (higher-row X b) ∙ go (ltZ h (a .y)) (ltZ h (b .y)) refl refl
       where
         up : Bool
-        up = Ltr (turn (out K2 a) (out K2 b) (pt X height))
+        up = is-above (Turn (out K2 a) (out K2 b) (pt X height))
 
         down : Bool
-        down = Ltr (turn (out K2 b) (out K2 a) (pt X height))
+        down = is-above (Turn (out K2 b) (out K2 a) (pt X height))
 
         go : (s t : Bool) → ltZ h (a .y) ≡ s → ltZ h (b .y) ≡ t → passes s t up down ≡ both (s ⊕ t) (ltZ X place)
         go true true p q = refl

@@ -8,18 +8,20 @@ use native.Mathlib.Decide.{ℕ-discrete}
 use lib.IntN.{ℤ, pos, negℤ, _+ℤ_, _-ℤ_, _*ℤ_}
 use lib.Signed.{_≤ℤ_, _<ℤ_, <ℤ-irrefl}
 use Rattle.whole.specs.Ring.{E, v, con, _:+_, _:-_, _:*_, neg, ring, ring1, ring2, by-ring}
-use Rattle.whole.specs.Order.{Nonneg, Positive, nonneg-pos, positive-pos, nonneg-add, nonneg-mul, positive-nonneg, positive-add, positive-mul, positive-pred, zero-cancel, le-sub, sub-le}
-use Rattle.outline.specs.Drawing.{Point, Shared}
-use Rattle.outline.specs.Parity.{_⊕_, pt, turn, odd, out, large}
-use Rattle.outline.specs.ParityRound.{odd-scale, ⊕-zero}
-use Rattle.outline.specs.Stretch.{len2, from-zero}
+use Rattle.whole.specs.Order.{Nonneg, Positive, nonneg-pos, positive-pos, nonneg-add, nonneg-mul, positive-nonneg, positive-add, positive-mul, positive-pred, zero-cancel, le-sub, sub-le, diff-zero}
+use Rattle.outline.specs.Drawing.{Point, Shared, Turn}
+use Rattle.outline.specs.Odd.{_⊕_}
+use Rattle.outline.specs.Parity.{pt, odd, out, large}
+use Rattle.outline.specs.Scale.{odd-scale}
+use Rattle.outline.specs.Xor.{⊕-zero}
+use Rattle.outline.specs.Along.{len2}
 use Rattle.outline.specs.EveryPoint.{Simple, sum2}
 use Rattle.outline.specs.Change.{Changes, apart-changes, line-changes, none-changes, Inner, rise, px}
 
 abbrev nil : E
 nil = con (pos 0)
 
-pub inner-line : {Q a b : Point} → Inner Q a b → turn a b Q ≡ pos 0
+pub inner-line : {Q a b : Point} → Inner Q a b → Turn a b Q ≡ pos 0
 inner-line {Q} {a} {b} i = zero-cancel (positive-add (i .k+) (positive-nonneg (i .m+)))
     (ring2 (Q .x ∷ Q .y ∷ a .x ∷ a .y ∷ b .x ∷ b .y ∷ i .k ∷ i .m ∷ []) ((v 6 :+ v 7) :* px (v 2) (v 3) (v 4) (v 5) (v 0) (v 1)) nil
     (v 5 :- v 3) (v 6 :* (v 2 :- v 0) :+ v 7 :* (v 4 :- v 0)) nil (neg (v 4 :- v 2)) (v 6 :* (v 3 :- v 1) :+ v 7 :* (v 5 :- v 1)) nil (i .mean-x) (i .mean-y) refl)
@@ -68,7 +70,7 @@ module _ (K : ℤ) (K+ : Positive K) (a b e f U W : Point) (i : Inner U (out K a
   axis : (u w a b e f : ℤ) → i .k *ℤ (K *ℤ a -ℤ u) +ℤ i .m *ℤ (K *ℤ b -ℤ u) ≡ pos 0 → j .k *ℤ (K *ℤ a -ℤ w) +ℤ j .m *ℤ (K *ℤ b -ℤ w) ≡ pos 0 →
       s .r *ℤ u +ℤ s .p *ℤ (w -ℤ u) ≡ s .r *ℤ (K *ℤ e) +ℤ s .q *ℤ (K *ℤ f -ℤ K *ℤ e) →
       s .r *ℤ (s1 *ℤ s2) *ℤ a +ℤ ((s .r -ℤ s .p) *ℤ (i .m *ℤ s2) +ℤ s .p *ℤ (j .m *ℤ s1)) *ℤ (b -ℤ a) ≡ s .r *ℤ (s1 *ℤ s2) *ℤ e +ℤ s .q *ℤ (s1 *ℤ s2) *ℤ (f -ℤ e)
-  axis u w a b e f hu hw hs = from-zero _ _ (zero-cancel K+
+  axis u w a b e f hu hw hs = diff-zero _ _ (zero-cancel K+
       (ring2 (ρ u w a b e f) (v 7 :* (RE :* v 10 :+ PE :* (v 11 :- v 10) :- (RE :* v 12 :+ QE :* (v 13 :- v 12)))) (S1 :* S2 :* (v 6 :* v 8 :+ v 4 :* (v 9 :- v 8) :- (v 6 :* (v 7 :* v 12) :+ v 5 :* (v 7 :* v 13 :- v 7 :* v 12))))
       ((v 6 :- v 4) :* S2) (v 0 :* (v 7 :* v 10 :- v 8) :+ v 1 :* (v 7 :* v 11 :- v 8)) nil (v 4 :* S1) (v 2 :* (v 7 :* v 10 :- v 9) :+ v 3 :* (v 7 :* v 11 :- v 9)) nil hu hw refl
       ∙ ring1 (ρ u w a b e f) (S1 :* S2 :* (v 6 :* v 8 :+ v 4 :* (v 9 :- v 8) :- (v 6 :* (v 7 :* v 12) :+ v 5 :* (v 7 :* v 13 :- v 7 :* v 12)))) nil (S1 :* S2) (v 6 :* v 8 :+ v 4 :* (v 9 :- v 8)) (v 6 :* (v 7 :* v 12) :+ v 5 :* (v 7 :* v 13 :- v 7 :* v 12)) hs refl))
