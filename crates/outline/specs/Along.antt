@@ -1,6 +1,5 @@
 -- How far along a segment IJ a point of its line stands: the product of `Segments`, (w - I) . (J - I). It is nothing
--- at
--- I and the squared length at J, and of two points of the line the one with the smaller product comes first.
+-- at I and the squared length at J, and of two points of the line the one with the smaller product comes first.
 --
 --      I ------ z ---------- w ------ J         0 <= along z <= along w <= len2
 use mathlib.Core.Path.{_≡_, refl, sym, _∙_}
@@ -49,13 +48,13 @@ along-high z a b o =
 
 -- ---- two points of the line: the way between them is told by their places. The points are C and D
 module _ (i j : Point) where
-  pub gap-x : (z w : Point) → Turn i j z ≡ pos 0 → Turn i j w ≡ pos 0 →
+  gap-x : (z w : Point) → Turn i j z ≡ pos 0 → Turn i j w ≡ pos 0 →
       len2 i j *ℤ (z .x -ℤ w .x) ≡ (along i j z -ℤ along i j w) *ℤ (j .x -ℤ i .x)
   gap-x z w e f =
       ring2 (env4 i j z w) (DotE A B B :* (C .x :- D .x)) ((DotE A C B :- DotE A D B) :* (B .x :- A .x))
       (neg (B .y :- A .y)) (TurnE A B C) O (B .y :- A .y) (TurnE A B D) O e f refl
 
-  pub gap-y : (z w : Point) → Turn i j z ≡ pos 0 → Turn i j w ≡ pos 0 →
+  gap-y : (z w : Point) → Turn i j z ≡ pos 0 → Turn i j w ≡ pos 0 →
       len2 i j *ℤ (z .y -ℤ w .y) ≡ (along i j z -ℤ along i j w) *ℤ (j .y -ℤ i .y)
   gap-y z w e f =
       ring2 (env4 i j z w) (DotE A B B :* (C .y :- D .y)) ((DotE A C B :- DotE A D B) :* (B .y :- A .y))

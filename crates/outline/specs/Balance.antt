@@ -1,8 +1,6 @@
 -- Four weights that balance. The four turns of two segments PQ and ab, each point against the other segment, balance
--- the
--- heights of the four points: weighed by their turns, a and b together stand as high as P and Q. So, by the order of
--- the
--- heights, two turns that are not negative make the other two so (and then the segments meet, `Meet`).
+-- the heights of the four points: weighed by their turns, a and b together stand as high as P and Q. So, by the order
+-- of the heights, two turns that are not negative make the other two so (and then the segments meet, `Meet`).
 --
 --      a \  / Q      Turn Q P a, Turn P Q b, Turn a b P and Turn b a Q: all above zero where they cross
 --         \/

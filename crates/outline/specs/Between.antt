@@ -1,8 +1,7 @@
 -- A point of the segment from corner i to corner j that is on no side, where no side crosses the segment: it lies in
--- the
--- outline if the points half way between corners on the segment are in or on. For it lies between two such corners,
--- the
--- last before it and the first after it, and has the parity of the point half way between those two (`Stretch`).
+-- the outline if the points half way between corners on the segment are in or on. For it lies between two such
+-- corners, the last before it and the first after it, and has the parity of the point half way between those two
+-- (`Stretch`).
 --
 --      i ---- k ---- z ----w---------- l --- j       w half way between k and l
 use mathlib.Core.Path.{_≡_, refl, sym, _∙_, ap, subst}
@@ -12,7 +11,7 @@ use mathlib.Core.List.{List, [], _∷_}
 use Prim.Native.Nat.{ℕ, suc, _<_, _≤_}
 use native.Mathlib.Omega.{arith}
 use native.Mathlib.Nat.{le-refl}
-use lib.IntN.{ℤ, pos, negℤ, _+ℤ_, _-ℤ_, _*ℤ_}
+use lib.IntN.{ℤ, pos, negℤ, _+ℤ_, _*ℤ_}
 use lib.Signed.{_≤ℤ_, _<ℤ_, ≤ℤ-refl, <ℤ-≤ℤ-trans}
 use Rattle.whole.specs.Ring.{E, v, con, _:+_, _:-_, _:*_, neg, ring1, ring2, by-ring}
 use Rattle.whole.specs.Order.{Nonneg, Positive, nonneg-pos, positive-pos, positive-cancel, zero-cancel, le-sub, sub-le}

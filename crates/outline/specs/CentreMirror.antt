@@ -1,9 +1,7 @@
 -- The finite test of `CentreTest` as a truth value that antt computes, and that on a simple drawing it tells a
--- centre's
--- sight.
+-- centre's sight.
 use mathlib.Core.Path.{_≡_, refl, subst}
 use mathlib.Core.Bool.{Bool, true, false, not, _&&_, _||_, false≢true}
-use mathlib.Core.Logic.{_⊎_, inl, inr}
 use mathlib.Core.List.{List}
 use Prim.Native.Nat.{ℕ, _<_}
 use lib.Dec.{eqb}

@@ -1,7 +1,7 @@
 -- A centre's sight on any drawing, sound or not: a corner sees itself and its two neighbours, and sight goes both
 -- ways.
 use mathlib.Core.Path.{_≡_, refl, _∙_, subst}
-use mathlib.Core.Logic.{_⊎_, inl, inr}
+use mathlib.Core.Logic.{inl, inr}
 use mathlib.Core.List.{List, [], _∷_}
 use Prim.Native.Nat.{ℕ, _<_}
 use lib.IntN.{ℤ, pos, _+ℤ_, _-ℤ_, _*ℤ_}

@@ -5,7 +5,7 @@ use mathlib.Core.List.{List}
 use Prim.Native.Nat.{ℕ, suc, _<_}
 use native.Mathlib.Decide.{ℕ-discrete}
 use lib.IntN.{ℤ, pos}
-use Rattle.whole.specs.Ring.{_:-_, _:*_, neg, ring2}
+use Rattle.whole.specs.Ring.{_:-_, _:*_, ring2}
 use Rattle.whole.specs.Order.{Positive, zero-cancel, diff-zero}
 use Rattle.outline.specs.Drawing.{Point, IsAt, Simple, corner, corners, after}
 use Rattle.outline.specs.Spell.{A, B, P, R, O, env, DotE, ab-x, ab-y}

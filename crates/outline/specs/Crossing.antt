@@ -1,11 +1,10 @@
 -- A side ab that crosses the segment IJ: its ends lie strictly on the two sides of the line IJ, so the shared point is
--- an
--- inner one of the side. It may be an end of IJ.
+-- an inner one of the side. It may be an end of IJ.
 use mathlib.Core.Path.{_≡_, refl, sym, subst}
 use mathlib.Core.Logic.{_⊎_, inl, inr}
 use mathlib.Core.List.{[], _∷_}
-use lib.IntN.{ℤ, pos, negℤ, _+ℤ_, _-ℤ_, _*ℤ_}
-use Rattle.whole.specs.Ring.{E, v, _:+_, _:-_, _:*_, ring1}
+use lib.IntN.{ℤ, negℤ, _+ℤ_, _-ℤ_, _*ℤ_}
+use Rattle.whole.specs.Ring.{v, _:-_, _:*_, ring1}
 use Rattle.whole.specs.Order.{Positive, positive-nonneg, positive-cancel, zero-cancel, diff-zero}
 use Rattle.outline.specs.Drawing.{Point, Shared, Turn}
 use Rattle.outline.specs.Spell.{O, I, At}

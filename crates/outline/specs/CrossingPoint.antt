@@ -1,8 +1,6 @@
 -- The point W that a side ab and a segment IJ share, where a lies strictly right of IJ and b strictly left. In a
--- drawing
--- r times as large it is a pair of whole numbers; it is an inner point of the side; if it is an inner one of IJ too,
--- the
--- side runs through; and the points close to it are points of IJ.
+-- drawing r times as large it is a pair of whole numbers; it is an inner point of the side; if it is an inner one of
+-- IJ too, the side runs through; and the points close to it are points of IJ.
 --
 --             b
 --      I ----- W ------ J
@@ -11,17 +9,17 @@ use mathlib.Core.Path.{_≡_, refl, sym, subst}
 use mathlib.Core.Logic.{_⊎_, inl, inr}
 use mathlib.Core.List.{List, [], _∷_}
 use lib.IntN.{ℤ, pos, _+ℤ_, _-ℤ_, _*ℤ_}
-use lib.Signed.{_≤ℤ_, <ℤ-irrefl}
+use lib.Signed.{<ℤ-irrefl}
 use Rattle.whole.specs.Ring.{E, v, _:+_, _:-_, _:*_, neg, ring, ring1, ring2, by-ring}
-use Rattle.whole.specs.Order.{Nonneg, Positive, nonneg-pos, nonneg-add, nonneg-mul, positive-nonneg, positive-add}
-use Rattle.whole.specs.Order.{positive-mul, positive-pred, positive-cancel, zero-cancel, diff-zero, le-sub, sub-le}
+use Rattle.whole.specs.Order.{Nonneg, Positive, nonneg-pos, nonneg-mul, positive-nonneg, positive-add}
+use Rattle.whole.specs.Order.{positive-mul, positive-cancel, zero-cancel, diff-zero, le-sub, sub-le}
 use Rattle.outline.specs.Drawing.{Point, Shared, Turn}
 use Rattle.outline.specs.Spell.{PointE, A, B, C, D, P, Q, R, O, I, env, TurnE, At, ab-x, ab-y, cd-x, cd-y}
-use Rattle.outline.specs.Placed.{On, Frac, on-of, frac-of}
-use Rattle.outline.specs.Parity.{pt, out}
+use Rattle.outline.specs.Placed.{On, Frac, frac-of}
+use Rattle.outline.specs.Parity.{out}
 use Rattle.outline.specs.Scale.{turn-scale}
 use Rattle.outline.specs.Through.{RunsThrough}
-use Rattle.outline.specs.Near.{near}
+use Rattle.outline.specs.SharedPoint.{point}
 use Rattle.outline.specs.EveryPoint.{AtEnd}
 
 -- I, J, a and b are A to D, the point's places are P, Q and R, and the point is
@@ -65,13 +63,13 @@ module _ (i j a b : Point) (right : Positive (Turn j i a)) (left : Positive (Tur
       (ring1 (s .q ∷ s .r ∷ k ∷ []) (v 2 :* (v 0 :- v 1)) O I (v 0 :* v 2) (v 1 :* v 2) e refl)))
 
   -- ---- the point, r times as far out, on both lines
-  abbrev pub point : Point
-  point = pt (s .r *ℤ i .x +ℤ s .p *ℤ (j .x -ℤ i .x)) (s .r *ℤ i .y +ℤ s .p *ℤ (j .y -ℤ i .y))
+  abbrev crossing : Point
+  crossing = point i j (s .p) (s .r)
 
-  pub on-segment : Turn (out (s .r) i) (out (s .r) j) point ≡ pos 0
+  pub on-segment : Turn (out (s .r) i) (out (s .r) j) crossing ≡ pos 0
   on-segment = ring ρ (TurnE (outE A) (outE B) W) O refl
 
-  pub on-side : Turn (out (s .r) a) (out (s .r) b) point ≡ pos 0
+  pub on-side : Turn (out (s .r) a) (out (s .r) b) crossing ≡ pos 0
   on-side =
       ring2 ρ (TurnE (outE C) (outE D) W) O (neg (R :* (D .y :- C .y))) ab-x cd-x (R :* (D .x :- C .x)) ab-y cd-y
       (s .same-x) (s .same-y) refl
@@ -117,7 +115,7 @@ module _ (i j a b : Point) (right : Positive (Turn j i a)) (left : Positive (Tur
       i .x ∷ i .y ∷ j .x ∷ j .y ∷ a .x ∷ a .y ∷ b .x ∷ b .y ∷ s .p ∷ s .q ∷ s .r
       ∷ c .x ∷ c .y ∷ e .x ∷ e .y ∷ m ∷ k ∷ []
 
-  with-side : (c e : Point) (f : Frac point (out (s .r) c) (out (s .r) e)) → Shared a b c e
+  with-side : (c e : Point) (f : Frac crossing (out (s .r) c) (out (s .r) e)) → Shared a b c e
   with-side c e f =
       record {
         p = s .q *ℤ f .k;
@@ -142,10 +140,10 @@ module _ (i j a b : Point) (right : Positive (Turn j i a)) (left : Positive (Tur
             (v 15 :* (R :* v 14 :- R :* v 12)) (s .same-y) (f .fy) refl;
       }
 
-  pub off-side : (c e : Point) → AtEnd a b c e → ¬ On point (out (s .r) c) (out (s .r) e)
+  pub off-side : (c e : Point) → AtEnd a b c e → ¬ On crossing (out (s .r) c) (out (s .r) e)
   unfolding with-side
   off-side c e only o =
-      let f = frac-of point (out (s .r) c) (out (s .r) e) o in
+      let f = frac-of crossing (out (s .r) c) (out (s .r) e) o in
       inner (f .k) (f .k+) (only (with-side c e f))
 
   -- ab and a segment that begins at c, where c is the point
@@ -178,57 +176,3 @@ module _ (i j a b : Point) (right : Positive (Turn j i a)) (left : Positive (Tur
       ends (only (with-start j e
       (ring2 ρ (R :* B .x) cd-x I ab-x cd-x (B .x :- A .x) (R :- P) O (s .same-x) h refl)
       (ring2 ρ (R :* B .y) cd-y I ab-y cd-y (B .y :- A .y) (R :- P) O (s .same-y) h refl)))
-
-  -- ---- the points close to it, k r times as far out, are points of IJ
-  on-ij : (k m : ℤ) (z : Point) → Positive k → Nonneg m → m ≤ℤ (k *ℤ s .r) →
-      z .x ≡ k *ℤ s .r *ℤ i .x +ℤ m *ℤ (j .x -ℤ i .x) → z .y ≡ k *ℤ s .r *ℤ i .y +ℤ m *ℤ (j .y -ℤ i .y) →
-      On z (out (k *ℤ s .r) i) (out (k *ℤ s .r) j)
-  on-ij k m z k+ m0 m1 ex ey =
-      on-of (record {
-        m = m;
-        k = k *ℤ s .r;
-        k+ = positive-mul k+ (s .r-above);
-        m0 = m0;
-        m1 = m1;
-        fx = axis (k *ℤ s .r) (z .x) (i .x) (j .x) ex;
-        fy = axis (k *ℤ s .r) (z .y) (i .y) (j .y) ey;
-      })
-    where
-      axis : (n z i j : ℤ) → z ≡ n *ℤ i +ℤ m *ℤ (j -ℤ i) → n *ℤ (z -ℤ n *ℤ i) ≡ m *ℤ (n *ℤ j -ℤ n *ℤ i)
-      axis n z i j e =
-          ring1 (z ∷ n ∷ m ∷ i ∷ j ∷ []) (v 1 :* (v 0 :- v 1 :* v 3)) (v 2 :* (v 1 :* v 4 :- v 1 :* v 3)) (v 1) (v 0)
-          (At (v 1) (v 3) (v 2) (v 4)) e refl
-
-  -- k p r are 0 to 2, and the ends on one axis 3 and 4
-  abbrev pointE : E
-  pointE = At (v 2) (v 3) (v 1) (v 4)
-
-  pub beside-i : (k : ℤ) → Positive k → On (near point k (out (s .r) i)) (out (k *ℤ s .r) i) (out (k *ℤ s .r) j)
-  beside-i k k+ =
-      on-ij k ((k -ℤ pos 1) *ℤ s .p) (near point k (out (s .r) i)) k+
-      (nonneg-mul (positive-pred k+) (s .p-from))
-      (sub-le (by-ring (k ∷ s .p ∷ s .r ∷ []) Nonneg (v 0 :* (v 2 :- v 1) :+ v 1) (v 0 :* v 2 :- (v 0 :- I) :* v 1)
-      refl
-      (nonneg-add (nonneg-mul (positive-nonneg k+) (le-sub (s .p-to))) (s .p-from))))
-      (axis (i .x) (j .x)) (axis (i .y) (j .y))
-    where
-      axis : (e f : ℤ) → k *ℤ (s .r *ℤ e +ℤ s .p *ℤ (f -ℤ e)) +ℤ (s .r *ℤ e -ℤ (s .r *ℤ e +ℤ s .p *ℤ (f -ℤ e)))
-          ≡ k *ℤ s .r *ℤ e +ℤ (k -ℤ pos 1) *ℤ s .p *ℤ (f -ℤ e)
-      axis e f =
-          ring (k ∷ s .p ∷ s .r ∷ e ∷ f ∷ []) (v 0 :* pointE :+ (v 2 :* v 3 :- pointE))
-          (At (v 0 :* v 2) (v 3) ((v 0 :- I) :* v 1) (v 4)) refl
-
-  pub beside-j : (k : ℤ) → Positive k → On (near point k (out (s .r) j)) (out (k *ℤ s .r) i) (out (k *ℤ s .r) j)
-  beside-j k k+ =
-      on-ij k ((k -ℤ pos 1) *ℤ s .p +ℤ s .r) (near point k (out (s .r) j)) k+
-      (nonneg-add (nonneg-mul (positive-pred k+) (s .p-from)) (positive-nonneg (s .r-above)))
-      (sub-le (by-ring (k ∷ s .p ∷ s .r ∷ []) Nonneg ((v 0 :- I) :* (v 2 :- v 1))
-      (v 0 :* v 2 :- ((v 0 :- I) :* v 1 :+ v 2))
-      refl (nonneg-mul (positive-pred k+) (le-sub (s .p-to)))))
-      (axis (i .x) (j .x)) (axis (i .y) (j .y))
-    where
-      axis : (e f : ℤ) → k *ℤ (s .r *ℤ e +ℤ s .p *ℤ (f -ℤ e)) +ℤ (s .r *ℤ f -ℤ (s .r *ℤ e +ℤ s .p *ℤ (f -ℤ e)))
-          ≡ k *ℤ s .r *ℤ e +ℤ ((k -ℤ pos 1) *ℤ s .p +ℤ s .r) *ℤ (f -ℤ e)
-      axis e f =
-          ring (k ∷ s .p ∷ s .r ∷ e ∷ f ∷ []) (v 0 :* pointE :+ (v 2 :* v 4 :- pointE))
-          (At (v 0 :* v 2) (v 3) ((v 0 :- I) :* v 1 :+ v 2) (v 4)) refl

@@ -1,6 +1,5 @@
 -- What a centre's sight asks of a drawing as `Parity` has it: every point of the segment lies in or on the drawing.
--- And
--- the finite test that answers it.
+-- And the finite test that answers it.
 use mathlib.Core.Path.{_≡_}
 use mathlib.Core.Logic.{_⊎_}
 use Prim.Native.Nat.{ℕ, suc, _<_}

@@ -64,6 +64,7 @@ pub mod EveryPoint
 -- a side that crosses a segment
 pub mod Crossing
 -- the test is enough: between two corners on the segment all points are alike
+pub mod Means
 pub mod Covers
 pub mod Stretch
 pub mod Between
@@ -72,6 +73,7 @@ pub mod TestEnough
 pub mod LineBetween
 pub mod Near
 pub mod OneIsOut
+pub mod SharedPoint
 pub mod CrossingPoint
 pub mod TestNeeded
 -- the definitions read so, for a drawing's own corners

@@ -1,6 +1,5 @@
 -- Two segments meet where none of the four turns, each point against the other segment, is negative, and one of them
--- is
--- above zero: the turns are the places of the shared point.
+-- is above zero: the turns are the places of the shared point.
 --
 --      a \  / Q      Turn Q P a, Turn P Q b, Turn a b P and Turn b a Q
 --         \/

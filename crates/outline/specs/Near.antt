@@ -1,6 +1,5 @@
 -- Close to a point W that is not on a side. In a drawing K times as large stand the points one step from W towards I
--- and
--- J, that is 1/K of the way there. From some K on, the segment between them does not meet the side.
+-- and J, that is 1/K of the way there. From some K on, the segment between them does not meet the side.
 --
 --      I ------------- . W . ------------- J
 use mathlib.Core.Path.{_≡_, refl, sym, subst}

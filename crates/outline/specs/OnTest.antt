@@ -1,7 +1,6 @@
 -- A pair of whole numbers on a segment, and on a side of a drawing, as truth values that antt computes.
 use mathlib.Core.Path.{_≡_, subst}
 use mathlib.Core.Bool.{Bool, true, false}
-use mathlib.Core.Logic.{inl, inr}
 use Prim.Native.Nat.{ℕ, zero, suc, _<_}
 use native.Mathlib.Nat.{not-suc-le-zero, le-refl}
 use native.Mathlib.Decide.{ℕ-discrete}
@@ -25,11 +24,11 @@ on-tells z a b =
     as-well (then-tells (number-tells _ _) (le-tells _ _)) (λ h. dot-on (h .0) (h .1)) (λ o. (o .line, on-dot o))
 
 -- ---- some number below n, the largest first
-abbrev pub some-below : ℕ → (ℕ → Bool) → Bool
+abbrev some-below : ℕ → (ℕ → Bool) → Bool
 some-below zero p = false
 some-below (suc n) p = elim (p n) as (λ x. Bool) [ true ↦ true | false ↦ some-below n p ]
 
-pub some-tells : {P : ℕ → Type 0} (n : ℕ) {p : ℕ → Bool} → ((i : ℕ) → i < n → Tells (p i) (P i)) →
+some-tells : {P : ℕ → Type 0} (n : ℕ) {p : ℕ → Bool} → ((i : ℕ) → i < n → Tells (p i) (P i)) →
     Tells (some-below n p) ((i : ℕ) × (i < n) × P i)
 some-tells zero f = never (λ h. not-suc-le-zero (h .1))
 some-tells {P} (suc n) {p} f =

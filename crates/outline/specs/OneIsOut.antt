@@ -1,8 +1,6 @@
 -- At a point W where one side runs through the segment IJ and no other side is near: of the two points of IJ close to
--- W,
--- one on each side of the side, one is not in or on the outline. For each is on no side, and just one of them has an
--- odd
--- number of sides to its right.
+-- W, one on each side of the side, one is not in or on the outline. For each is on no side, and just one of them has
+-- an odd number of sides to its right.
 --
 --               \
 --      I ------ . W . ----- J

@@ -15,8 +15,7 @@ abbrev pub pt : ℤ → ℤ → Point
 pt a b = record { x = a; y = b }
 
 -- of the first m sides an odd number pass at z's height strictly to its right, with one end higher than z and the
--- other
--- not
+-- other not
 abbrev pub odd : (ℕ → Point) → Point → ℕ → Bool
 odd c z m = numbers.odd (λ k. crosses z (c k) (c (suc k))) m
 

@@ -1,6 +1,5 @@
 -- One side ab and a segment PQ that it does not meet: whether the side passes to the right of P and whether it passes
--- to
--- the right of Q differ just where one of its ends, and not both, lies in the strip to the right of PQ.
+-- to the right of Q differ just where one of its ends, and not both, lies in the strip to the right of PQ.
 --
 --            Q . . . . . . . .
 --           /    the strip: above P, not above Q, and to the right of PQ
@@ -23,8 +22,7 @@ use Rattle.outline.specs.Balance.{balanced, balanced-back, low-mid, low-
 use Rattle.outline.specs.Meet.{first, second, third, fourth, meets, meets-back}
 
 -- ---- where the segments do not meet, two of the four turns have one sign. Which two, the heights say: low is not
--- above
--- P, high is above Q, mid is between
+-- above P, high is above Q, mid is between
 module _ (P Q a b : Point) (apart : ¬ Shared P Q a b) where
   same-low-mid : a .y ≤ℤ P .y → P .y <ℤ b .y → b .y ≤ℤ Q .y → is-above (Turn a b P) ≡ is-above (Turn Q P b)
   same-low-mid i j k = same-above (turn-back a b P) (turn-back Q P b) f g

@@ -2,10 +2,10 @@
 -- side is taken r times as far out, so that the point is a pair of whole numbers.
 use mathlib.Core.Path.{refl, subst}
 use mathlib.Core.Bool.{Bool, true, false}
-use mathlib.Core.Logic.{_⊎_, inl, inr}
+use mathlib.Core.Logic.{inl, inr}
 use lib.IntN.{ℤ, pos, _-ℤ_, _*ℤ_}
 use lib.Signed.{_≤ℤ_, _<ℤ_, ltZ}
-use Rattle.whole.specs.Ring.{E, _:+_, _:-_, _:*_, ring, ring1, by-ring}
+use Rattle.whole.specs.Ring.{E, _:-_, _:*_, ring, ring1, by-ring}
 use Rattle.whole.specs.Order.{Nonneg, Positive, positive-nonneg, positive-mul, positive-cancel}
 use Rattle.whole.specs.Order.{le-sub, sub-le, lt-sub, sub-lt}
 use Rattle.whole.specs.Order.{≤ℤ-<ℤ-trans, not-less}

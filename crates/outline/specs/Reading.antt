@@ -1,6 +1,5 @@
 -- The definitions of `InOrOn` as `Parity` reads them: a drawing as a closed function, r times as large, where a point
--- is
--- a pair of whole numbers.
+-- is a pair of whole numbers.
 use mathlib.Core.Path.{_≡_, refl, sym, _∙_, ap, subst}
 use mathlib.Core.Bool.{Bool, true, false, cond}
 use mathlib.Core.Logic.{inl, inr}
@@ -8,7 +7,7 @@ use mathlib.Core.List.{List}
 use Prim.Native.Nat.{ℕ, suc, _<_}
 use native.Mathlib.Omega.{arith}
 use lib.Dec.{eqb}
-use lib.IntN.{ℤ, pos}
+use lib.IntN.{ℤ}
 use borrow.Author.Tests.{eq-eqb, ne-eqb}
 use Rattle.whole.specs.Ring.{_:-_, _:*_, neg, ring1}
 use Rattle.outline.specs.Drawing.{Point, corner, corners, after}
@@ -42,7 +41,7 @@ module _ (z : Spot) (a b : Point) where
   abbrev ρ : ℤ → ℤ → List ℤ
   ρ p q = env a b (top z) (top z) p q (z .r)
 
-  pub on-read : OnSegment z a b → On (top z) (grown z a) (grown z b)
+  on-read : OnSegment z a b → On (top z) (grown z a) (grown z b)
   on-read o =
       on-of (record {
         m = o .p;
@@ -58,7 +57,7 @@ module _ (z : Spot) (a b : Point) where
             (R :* At Q (A .y) P (B .y)) (Q :* C .y) (o .on-y) refl;
       })
 
-  pub on-said : On (top z) (grown z a) (grown z b) → OnSegment z a b
+  on-said : On (top z) (grown z a) (grown z b) → OnSegment z a b
   on-said o =
       let f = frac-of (top z) (grown z a) (grown z b) o in
       record {

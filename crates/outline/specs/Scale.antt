@@ -1,18 +1,17 @@
 -- A drawing k times as large: turns grow by the square of k, and what a point's place on a side, the sides to its
--- right
--- and the crossings of segments say stays as it is.
-use mathlib.Core.Path.{_≡_, refl, sym, _∙_, ap, subst}
-use mathlib.Core.Logic.{_⊎_, inl, inr}
+-- right and the crossings of segments say stays as it is.
+use mathlib.Core.Path.{_≡_, refl, sym, _∙_, ap}
+use mathlib.Core.Logic.{inl, inr}
 use mathlib.Core.List.{[], _∷_}
 use Prim.Native.Nat.{ℕ, zero, suc}
-use lib.IntN.{ℤ, pos, negℤ, _+ℤ_, _-ℤ_, _*ℤ_, *ℤ-zero}
-use Rattle.whole.specs.Ring.{E, v, con, _:+_, _:-_, _:*_, neg, eval, ring, ring1, by-ring}
-use Rattle.whole.specs.Order.{Nonneg, Positive, positive-nonneg, positive-mul, positive-cancel, le-cancel, zero-cancel}
+use lib.IntN.{ℤ, pos, _*ℤ_, *ℤ-zero}
+use Rattle.whole.specs.Ring.{v, _:-_, _:*_, ring, ring1, by-ring}
+use Rattle.whole.specs.Order.{Positive, positive-nonneg, positive-mul, le-cancel, zero-cancel}
 use Rattle.whole.specs.Order.{diff-zero, *ℤ-mono}
-use Rattle.outline.specs.Drawing.{Point, Shared, Turn}
-use Rattle.outline.specs.Spell.{PointE, A, B, C, R, O, I, env, env4, TurnE, DotE, At}
-use Rattle.outline.specs.Segments.{point-eq, turn-back}
-use Rattle.outline.specs.Passing.{higher, passes, crosses}
+use Rattle.outline.specs.Drawing.{Point, Turn}
+use Rattle.outline.specs.Spell.{PointE, A, B, C, R, O, I, env, TurnE, DotE}
+use Rattle.outline.specs.Segments.{point-eq}
+use Rattle.outline.specs.Passing.{crosses}
 use Rattle.outline.specs.Odd.{_⊕_}
 use Rattle.outline.specs.Placed.{Btw, On}
 use Rattle.outline.specs.Along.{len2}

@@ -1,8 +1,6 @@
 -- The finite test is enough, on every drawing in which the segment has a length: a point z / r of it is a pair of
--- whole
--- numbers of the drawing r times as large; twice that, and the points half way between corners are so too, and
--- `Between`
--- tells.
+-- whole numbers of the drawing r times as large; twice that, and the points half way between corners are so too, and
+-- `Between` tells.
 use mathlib.Core.Path.{_≡_, refl, ap, ap₂, subst, fun-ext}
 use mathlib.Core.Logic.{inl, inr}
 use mathlib.Core.List.{[], _∷_}

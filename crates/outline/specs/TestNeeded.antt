@@ -5,21 +5,20 @@ use mathlib.Core.Logic.{_⊎_, inl, inr}
 use mathlib.Core.List.{[], _∷_}
 use Prim.Native.Nat.{ℕ, suc, _<_}
 use native.Mathlib.Decide.{ℕ-discrete}
-use lib.IntN.{ℤ, pos, negℤ, _+ℤ_, _-ℤ_, _*ℤ_}
+use lib.IntN.{ℤ, pos, _+ℤ_, _-ℤ_, _*ℤ_}
 use lib.Signed.{<ℤ-irrefl}
 use Rattle.whole.specs.Laws.{*ℤ-assoc}
 use Rattle.whole.specs.Ring.{E, v, con, _:+_, _:-_, _:*_, ring2, by-ring}
 use Rattle.whole.specs.Order.{Nonneg, Positive, positive-pos, nonneg-add, positive-mul, positive-or, le-sub, sub-le}
 use Rattle.outline.specs.Drawing.{Point, Shared, Turn}
 use Rattle.outline.specs.Segments.{turned-first, turn-back, turn-start, turn-end}
-use Rattle.outline.specs.Placed.{On, on-of, frac-of, on-turn}
+use Rattle.outline.specs.Placed.{On, on-of, on-turn}
 use Rattle.outline.specs.Along.{len2, along, along-low, along-high, on-x, on-y}
 use Rattle.outline.specs.Parity.{pt, InOn, out, large}
 use Rattle.outline.specs.Scale.{len-scale}
 use Rattle.outline.specs.Crossing.{Opposite, Crosses}
-use Rattle.outline.specs.CrossingPoint.{point, on-segment, on-side, runs-through, off-side, not-first, not-last}
-use Rattle.outline.specs.CrossingPoint.{beside-i, beside-j}
-use Rattle.outline.specs.Near.{near}
+use Rattle.outline.specs.CrossingPoint.{on-segment, on-side, runs-through, off-side, not-first, not-last}
+use Rattle.outline.specs.SharedPoint.{point, beside-i, beside-j}
 use Rattle.outline.specs.OneIsOut.{one-is-out}
 use Rattle.outline.specs.EveryPoint.{Sight, Test, Simple, sum2}
 
@@ -30,7 +29,7 @@ module _ (c : ℕ → Point) (n : ℕ) (closed : c n ≡ c 0) (simple : Simple c
       (s : Shared (c i) (c j) (c m) (c (suc m))) where
     -- the crossing, r times as far out
     w : Point
-    w = point (c i) (c j) (c m) (c (suc m)) right left s
+    w = point (c i) (c j) (s .p) (s .r)
 
     -- not a corner: a side begins there, and it would hold an inner point of side m
     not-i : ¬ (s .p ≡ pos 0)
@@ -80,8 +79,8 @@ module _ (c : ℕ → Point) (n : ℕ) (closed : c n ≡ c 0) (simple : Simple c
         (runs-through (c i) (c j) (c m) (c (suc m)) right left s p+ p-)
         (λ k k<. len-scale (s .r) (c k) (c (suc k)) (s .r-above) (simple .ends k k<)) off in
         u .not-both
-        (seen (u .k) (u .k+) _ (beside-i (c i) (c j) (c m) (c (suc m)) right left s (u .k) (u .k+)))
-        (seen (u .k) (u .k+) _ (beside-j (c i) (c j) (c m) (c (suc m)) right left s (u .k) (u .k+)))
+        (seen (u .k) (u .k+) _ (beside-i (c i) (c j) (s .p) (s .r) (s .r-above) (s .p-from) (s .p-to) (u .k) (u .k+)))
+        (seen (u .k) (u .k+) _ (beside-j (c i) (c j) (s .p) (s .r) (s .r-above) (s .p-from) (s .p-to) (u .k) (u .k+)))
 
   -- ---- no side crosses a seen segment
   clear-of : (i j : ℕ) → i < n → j < n → Sight c n (c i) (c j) → (m : ℕ) → m < n →

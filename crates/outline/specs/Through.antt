@@ -11,11 +11,11 @@ use mathlib.Core.Logic.{_⊎_, inl, inr}
 use Prim.Native.Nat.{ℕ, suc, _<_}
 use lib.IntN.{ℤ, pos, _-ℤ_}
 use lib.Signed.{_≤ℤ_, _<ℤ_, <ℤ-irrefl}
-use Rattle.whole.specs.Ring.{E, v, _:+_, _:-_, _:*_, neg, eval, ring2, by-ring}
+use Rattle.whole.specs.Ring.{E, _:+_, _:-_, _:*_, neg, eval, ring2, by-ring}
 use Rattle.whole.specs.Order.{Nonneg, Positive, nonneg-add, nonneg-mul, positive-nonneg, positive-add, positive-mul}
 use Rattle.whole.specs.Order.{positive-or, le-sub, lt-sub, <ℤ-le, ≤ℤ-total}
 use Rattle.outline.specs.Drawing.{Point, Shared, Turn}
-use Rattle.outline.specs.Spell.{A, B, C, D, O, I, env4, TurnE}
+use Rattle.outline.specs.Spell.{A, B, C, O, env4, TurnE}
 use Rattle.outline.specs.Segments.{turned-first, turn-back}
 use Rattle.outline.specs.Passing.{higher, passes, crosses}
 use Rattle.outline.specs.Odd.{_⊕_}
