@@ -6,6 +6,8 @@
 pub mod Drawing
 -- a point in or on a drawing, and a centre's sight
 pub mod InOrOn
+-- and points of a square to try it on
+pub mod Points
 -- ---- tools
 -- truth values that tell of a statement whether it holds
 pub mod Tells

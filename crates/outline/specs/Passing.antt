@@ -56,6 +56,34 @@ abbrev overE : E
 overE = C .y :- R :* A .y
 
 module _ (z : Spot) (a b : Point) where
+  -- a side that rises past the point
+  module _ (low : (z .r *ℤ a .y) ≤ℤ z .y) (high : Higher z b) where
+    rises : Positive (z .r *ℤ b .y -ℤ z .r *ℤ a .y)
+    rises = lt-sub (≤ℤ-<ℤ-trans low high)
+
+    right-left : PassesRight z a b → Positive (Turn (grown z a) (grown z b) (top z))
+    right-left t =
+        positive-cancel (positive-nonneg (t .q-above))
+        (subst Positive
+        (ring1 (env a b (top z) a (t .p) (t .q) (z .r)) (riseE :* (R :* At Q (A .x) P (B .x) :- Q :* C .x))
+        (Q :* turnE)
+        (R :* B .x :- R :* A .x) (R :* At Q (A .y) P (B .y)) (Q :* C .y) (t .height) refl)
+        (positive-mul rises (lt-sub (t .larger))))
+
+    left-right : Positive (Turn (grown z a) (grown z b) (top z)) → PassesRight z a b
+    left-right t =
+        let ρ = env a b (top z) a (pos 0) (pos 0) (z .r) in
+        record {
+          p = z .y -ℤ z .r *ℤ a .y;
+          q = z .r *ℤ b .y -ℤ z .r *ℤ a .y;
+          q-above = rises;
+          p-from = le-sub low;
+          p-to = sub-le (by-ring ρ Nonneg (R :* B .y :- C .y) (riseE :- overE) refl (positive-nonneg (lt-sub high)));
+          height = ring ρ (R :* At riseE (A .y) overE (B .y)) (riseE :* C .y) refl;
+          larger = sub-lt (by-ring ρ Positive turnE (R :* At riseE (A .x) overE (B .x) :- riseE :* C .x) refl t);
+        }
+
+  -- and one that falls, turned round
   turned : PassesRight z a b → PassesRight z b a
   turned t =
       let ρ = env a b (top z) a (t .p) (t .q) (z .r) in
@@ -72,33 +100,6 @@ module _ (z : Spot) (a b : Point) where
             subst (λ k. (t .q *ℤ z .x) <ℤ k)
             (ring ρ (R :* At Q (A .x) P (B .x)) (R :* At Q (B .x) (Q :- P) (A .x)) refl) (t .larger);
       }
-
-  -- a side that rises past the point
-  module _ (low : (z .r *ℤ a .y) ≤ℤ z .y) (high : Higher z b) where
-    rises : Positive (z .r *ℤ b .y -ℤ z .r *ℤ a .y)
-    rises = lt-sub (≤ℤ-<ℤ-trans low high)
-
-    left-right : Positive (Turn (grown z a) (grown z b) (top z)) → PassesRight z a b
-    left-right t =
-        let ρ = env a b (top z) a (pos 0) (pos 0) (z .r) in
-        record {
-          p = z .y -ℤ z .r *ℤ a .y;
-          q = z .r *ℤ b .y -ℤ z .r *ℤ a .y;
-          q-above = rises;
-          p-from = le-sub low;
-          p-to = sub-le (by-ring ρ Nonneg (R :* B .y :- C .y) (riseE :- overE) refl (positive-nonneg (lt-sub high)));
-          height = ring ρ (R :* At riseE (A .y) overE (B .y)) (riseE :* C .y) refl;
-          larger = sub-lt (by-ring ρ Positive turnE (R :* At riseE (A .x) overE (B .x) :- riseE :* C .x) refl t);
-        }
-
-    right-left : PassesRight z a b → Positive (Turn (grown z a) (grown z b) (top z))
-    right-left t =
-        positive-cancel (positive-nonneg (t .q-above))
-        (subst Positive
-        (ring1 (env a b (top z) a (t .p) (t .q) (z .r)) (riseE :* (R :* At Q (A .x) P (B .x) :- Q :* C .x))
-        (Q :* turnE)
-        (R :* B .x :- R :* A .x) (R :* At Q (A .y) P (B .y)) (Q :* C .y) (t .height) refl)
-        (positive-mul rises (lt-sub (t .larger))))
 
 pub passing : (z : Spot) (a b : Point) →
     Tells (crosses (top z) (grown z a) (grown z b)) (OneEndHigher z a b × PassesRight z a b)
