@@ -12,10 +12,11 @@ use borrow.Author.Tests.{eq-eqb, ne-eqb}
 use lib.Signed.{_≤ℤ_, _<ℤ_}
 use Rattle.whole.specs.Order.{<ℤ-le, ≤ℤ-total}
 use Rattle.outline.specs.Drawing.{Point}
-use Rattle.outline.specs.Parity.{_⊕_, crosses, odd}
-use Rattle.outline.specs.ParitySide.{strip, ⊕-no, ⊕-same}
-use Rattle.outline.specs.ParityRound.{⊕-swap, ⊕-chain}
-use Rattle.outline.specs.Through.{⊕-comm}
+use Rattle.outline.specs.Odd.{_⊕_}
+use Rattle.outline.specs.Passing.{crosses}
+use Rattle.outline.specs.Parity.{odd}
+use Rattle.outline.specs.ParitySide.{strip}
+use Rattle.outline.specs.Xor.{⊕-no, ⊕-same, ⊕-swap, ⊕-chain, ⊕-comm}
 use Rattle.outline.specs.SideChanges.{Changes, changes-back}
 
 -- f 0 ⊕ .. ⊕ f (n - 1)

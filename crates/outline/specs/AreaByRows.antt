@@ -13,8 +13,9 @@ use lib.Signed.{_≤ℤ_, ltZ, ≤ℤ-refl}
 use Rattle.whole.specs.Ring.{v, _:+_, _:-_, _:*_, ring}
 use Rattle.whole.specs.Order.{Positive, positive-pos, positive-mul, le-cancel, +ℤ-mono}
 use Rattle.outline.specs.Drawing.{Point}
-use Rattle.outline.specs.Parity.{_⊕_, pt, odd, out, large}
-use Rattle.outline.specs.ParityRound.{⊕-zero}
+use Rattle.outline.specs.Odd.{_⊕_}
+use Rattle.outline.specs.Parity.{pt, odd, out, large}
+use Rattle.outline.specs.Xor.{⊕-zero}
 use Rattle.outline.specs.EveryPoint.{Simple}
 use Rattle.outline.specs.Inner.{Inner, inner-shared}
 use Rattle.outline.specs.Rising.{rises}

@@ -14,7 +14,8 @@ use Rattle.outline.specs.Ends.{OnlyEnd, only-complete}
 use Rattle.outline.specs.Round.{prev-below, next-prev, prev-next}
 use Rattle.outline.specs.Placed.{On}
 use Rattle.outline.specs.Reading.{round, round-inner, round-closed}
-use Rattle.outline.specs.CentreTest.{apart-length, simple-read}
+use Rattle.outline.specs.Along.{apart-length}
+use Rattle.outline.specs.CornersApart.{simple-read}
 use Rattle.outline.specs.Barred.{off-side}
 use Rattle.outline.specs.Directions.{Away, away-of, length-back}
 use Rattle.outline.specs.Value.{left}

@@ -8,19 +8,18 @@ use lib.IntN.{ℤ, pos}
 use Rattle.whole.specs.Order.{below}
 use Rattle.outline.specs.Drawing.{Point, Turn, Simple, corner, corners, after, EndsAt, Beside, Sees}
 use Rattle.outline.specs.InOrOn.{spot, OnSegment}
-use Rattle.outline.specs.OnSegment.{shared-on}
-use Rattle.outline.specs.Segments.{Apart, apart-off}
+use Rattle.outline.specs.OnSegment.{on-of}
+use Rattle.outline.specs.Segments.{Apart, apart-off, turn-start, turn-end}
 use Rattle.outline.specs.Round.{next-below}
 use Rattle.outline.specs.Seeing.{clear-sight}
 use Rattle.outline.specs.Unbroken.{none-between}
-use Rattle.outline.specs.Placed.{On, touch-meets}
-use Rattle.outline.specs.Stretch.{Opposite}
-use Rattle.outline.specs.Between.{turn-start, turn-end}
+use Rattle.outline.specs.Placed.{On, on-dot}
+use Rattle.outline.specs.Crossing.{Opposite}
 use Rattle.outline.specs.Way.{CrossedBy, GrazedBy}
 
 -- a whole point on a segment, as 01 says it
 segment-of : {z a b : Point} → On z a b → OnSegment (spot z) a b
-segment-of {z} {a} {b} o = shared-on (touch-meets a b z z (inl (inl o)))
+segment-of o = on-of (o .line) (on-dot o)
 
 apart-of : {s t : ℤ} → Opposite s t → Apart s t
 apart-of (inl h) = inl (h .0, below (h .1))

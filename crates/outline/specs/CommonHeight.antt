@@ -12,7 +12,7 @@ use borrow.Author.Tests.{eq-eqb, ne-eqb}
 use lib.IntN.{ℤ, pos, negℤ, _-ℤ_, _*ℤ_}
 use Rattle.whole.specs.Ring.{v, _:*_, neg, ring, ring1}
 use Rattle.whole.specs.Order.{Positive, Sign, plus, nought, minus, sign, positive-pos, positive-mul}
-use Rattle.outline.specs.Between.{last}
+use Rattle.outline.specs.Topmost.{last}
 
 -- a height of nought, or one that goes e times into D
 abbrev pub Divides : ℤ → ℤ → ℤ → Type 0

@@ -17,8 +17,10 @@ use Rattle.whole.specs.Order.{Positive, Sign, plus, nought, minus, sign, positi
 use Rattle.outline.specs.Drawing.{Point, Turn}
 use Rattle.outline.specs.Segments.{Dot}
 use Rattle.outline.specs.Spell.{A, B, C, O, I, env4, TurnE, DotE}
-use Rattle.outline.specs.Parity.{_⊕_, out}
-use Rattle.outline.specs.ParitySide.{⊕-same}
+use Rattle.outline.specs.Odd.{_⊕_}
+use Rattle.outline.specs.Parity.{out}
+use Rattle.outline.specs.Xor.{⊕-same}
+use Rattle.outline.specs.Scale.{len-scale}
 use Rattle.outline.specs.Near.{near}
 use Rattle.outline.specs.Compare.{first-part}
 use Rattle.outline.specs.TruthSums.{not-not, ⊕-across}
@@ -26,7 +28,7 @@ use Rattle.outline.specs.Directions.{right-left}
 use Rattle.outline.specs.Inner.{Inner, inner-turned, inner-line, inner-near}
 use Rattle.outline.specs.Rising.{Rises, rise, rises, rises-turned, rises-like, rises-once}
 use Rattle.outline.specs.SideChanges.{Changes, changes-back, changes-turned, line-changes}
-use Rattle.outline.specs.Value.{value, value-of, left, length-out}
+use Rattle.outline.specs.Value.{value, value-of, left}
 use Rattle.outline.specs.NearCorner.{Corner, close, Far, far-all, settled}
 use Rattle.outline.specs.Ray.{above-one, turn-from, turn-to, from-left, from-right}
 
@@ -150,8 +152,8 @@ module _ (c : ℕ → Point) (n s t : ℕ) (here : Corner c n s t) where
           ∙ not-both (rise p W) (rise W q)
       go (nought e) =
           settled c n s t here p q f K enough false false
-          (line-changes (near W K p) (near W K q) (out K p) (out K W) (length-out K p W (above-one K big) p-length)
+          (line-changes (near W K p) (near W K q) (out K p) (out K W) (len-scale K p W (above-one K big) p-length)
           (inner-line (inner-p K big)) (on-p K big e))
-          (line-changes (near W K p) (near W K q) (out K W) (out K q) (length-out K W q (above-one K big) q-length)
+          (line-changes (near W K p) (near W K q) (out K W) (out K q) (len-scale K W q (above-one K big) q-length)
           (on-q K big e) (inner-line (inner-near W q K big)))
           ∙ sym (ap (λ z. rise p W ⊕ z) (sym (same-rise e)) ∙ ⊕-same (rise p W))

@@ -20,11 +20,12 @@ use Rattle.outline.specs.Drawing.{Point, Turn, InsideAngle}
 use Rattle.outline.specs.Segments.{turned-first, Dot}
 use Rattle.outline.specs.Spell.{I}
 use Rattle.outline.specs.Placed.{On, on-turn, touch-meets}
-use Rattle.outline.specs.Parity.{_⊕_, out, large, OnSide}
-use Rattle.outline.specs.ParitySide.{⊕-no}
+use Rattle.outline.specs.Odd.{_⊕_}
+use Rattle.outline.specs.Parity.{out, large, OnSide}
+use Rattle.outline.specs.Xor.{⊕-move, ⊕-no}
 use Rattle.outline.specs.Near.{near}
 use Rattle.outline.specs.Compare.{plus-off, both-signs, first-part, second-part}
-use Rattle.outline.specs.TruthSums.{⊕-yes, ⊕-not, not-not, ⊕-solve}
+use Rattle.outline.specs.TruthSums.{⊕-yes, not-not, ⊕-solve}
 use Rattle.outline.specs.Directions.{right-left, left-right, in-line-back, Away, left-of-other, right-of-other}
 use Rattle.outline.specs.AngleAt.{in-sharp, in-wide, out-sharp, out-wide, not-folded}
 use Rattle.outline.specs.Rising.{rise}
@@ -182,7 +183,7 @@ module _ (c : ℕ → Point) (n s t : ℕ) (here : Corner c n s t) (J : Point) (
               close c n W K J ≡ not l ⊕ e
           with-s e at-s =
               by-q f K big h (not (rise W q)) e (q-right c n s t here K big J on-right) at-s
-              ∙ ap (λ z. z ⊕ e) (⊕-not (value c n t) (rise W q))
+              ∙ ap (λ z. z ⊕ e) (⊕-move (value c n t) (rise W q))
 
           passed : Beyond (Turn W J p) (Turn W p q) → close c n W K J ≡ not l
           passed b =
@@ -242,7 +243,7 @@ module _ (c : ℕ → Point) (n s t : ℕ) (here : Corner c n s t) (J : Point) (
           (apart-changes (near W K J) (near W K p) (out K q) (out K W)
           (λ s. ray-apart W p J q K (above-one K big) a (behind (positive-nonneg x) (nought-behind e))
           (turned-first s))))
-          ∙ ⊕-not (value c n s) (rise p W) ∙ ap not left-p))
+          ∙ ⊕-move (value c n s) (rise p W) ∙ ap not left-p))
       at (minus a) =
           let b = right-left W p J a in
           let y = left-of-other W J q p e′ (off-q e′) b in

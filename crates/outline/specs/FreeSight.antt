@@ -18,22 +18,22 @@ use Rattle.outline.specs.Round.{next-below}
 use Rattle.outline.specs.Seeing.{Passes, OnlyCorner, one-end, beside-back, clear-sight, sees-of}
 use Rattle.outline.specs.Unbroken.{not-all}
 use Rattle.outline.specs.Spell.{A, B, C, O, I, env4, TurnE}
-use Rattle.outline.specs.Placed.{On, on-turn}
-use Rattle.outline.specs.Stretch.{Opposite}
-use Rattle.outline.specs.CentreTest.{apart-length, corners-apart}
-use Rattle.outline.specs.CentreMirror.{dot-on}
+use Rattle.outline.specs.Placed.{On, on-turn, dot-on}
+use Rattle.outline.specs.Crossing.{Opposite}
+use Rattle.outline.specs.Along.{apart-length}
+use Rattle.outline.specs.CornersApart.{corners-apart}
 use Rattle.outline.specs.Way.{Free}
 use Rattle.outline.specs.Compare.{plus-off, minus-off}
 use Rattle.outline.specs.Directions.{all-in-line}
 use Rattle.outline.specs.Barred.{off-side}
 
--- ---- how two segments ij and ab meet, each with two ends
+-- ---- how the segments ij and ab meet
 -- where a is on the line ij and b is not, what they share is a
-lone : (i j a b : Point) → ¬ (i ≡ j) → Shared i j b a → Turn i j a ≡ pos 0 → ¬ (Turn i j b ≡ pos 0) → On a i j
-lone i j a b ij s on off = go (≤ℤ-total (Dot a i j) (pos 0)) (sign (Turn i j b))
+lone : (i j a b : Point) → Shared i j b a → Turn i j a ≡ pos 0 → ¬ (Turn i j b ≡ pos 0) → On a i j
+lone i j a b s on off = go (≤ℤ-total (Dot a i j) (pos 0)) (sign (Turn i j b))
   where
     go : (Dot a i j ≤ℤ pos 0) ⊎ (pos 0 <ℤ Dot a i j) → Sign (Turn i j b) → On a i j
-    go (inl h) t = dot-on a i j ij on h
+    go (inl h) t = dot-on on h
     go (inr h) (plus k) = absurd (aside k on h (exchanged s))
     go (inr h) (minus k) = absurd (aside-right (below k) on h (exchanged s))
     go (inr h) (nought e) = absurd (off e)
@@ -42,20 +42,20 @@ lone i j a b ij s on off = go (≤ℤ-total (Dot a i j) (pos 0)) (sign (Turn i j
 abbrev Meets : Point → Point → Point → Point → Type 0
 Meets i j a b = (On a i j ⊎ On b i j) ⊎ ((On i a b ⊎ On j a b) ⊎ Opposite (Turn i j a) (Turn i j b))
 
-how-met : (i j a b : Point) → ¬ (i ≡ j) → ¬ (a ≡ b) → Shared i j a b → Meets i j a b
-how-met i j a b ij ab s = go (sign (Turn i j a)) (sign (Turn i j b))
+how-met : (i j a b : Point) → ¬ (i ≡ j) → Shared i j a b → Meets i j a b
+how-met i j a b ij s = go (sign (Turn i j a)) (sign (Turn i j b))
   where
     flat : Turn i j a ≡ pos 0 → Turn i j b ≡ pos 0 → Touch i j a b → Meets i j a b
-    flat e f (inl (inl h)) = inl (inl (dot-on a i j ij e h))
-    flat e f (inl (inr h)) = inl (inr (dot-on b i j ij f h))
-    flat e f (inr (inl h)) = inr (inl (inl (dot-on i a b ab (all-in-line i j a b (apart-length i j ij) e f .0) h)))
-    flat e f (inr (inr h)) = inr (inl (inr (dot-on j a b ab (all-in-line i j a b (apart-length i j ij) e f .1) h)))
+    flat e f (inl (inl h)) = inl (inl (dot-on e h))
+    flat e f (inl (inr h)) = inl (inr (dot-on f h))
+    flat e f (inr (inl h)) = inr (inl (inl (dot-on (all-in-line i j a b (apart-length i j ij) e f .0) h)))
+    flat e f (inr (inr h)) = inr (inl (inr (dot-on (all-in-line i j a b (apart-length i j ij) e f .1) h)))
 
     only-a : Turn i j a ≡ pos 0 → ¬ (Turn i j b ≡ pos 0) → Meets i j a b
-    only-a e n = inl (inl (lone i j a b ij (turned-second s) e n))
+    only-a e n = inl (inl (lone i j a b (turned-second s) e n))
 
     only-b : Turn i j b ≡ pos 0 → ¬ (Turn i j a ≡ pos 0) → Meets i j a b
-    only-b e n = inl (inr (lone i j b a ij s e n))
+    only-b e n = inl (inr (lone i j b a s e n))
 
     go : Sign (Turn i j a) → Sign (Turn i j b) → Meets i j a b
     go (plus h) (plus k) = absurd (one-side (inl (h, k)) s)
@@ -70,15 +70,15 @@ how-met i j a b ij ab s = go (sign (Turn i j a)) (sign (Turn i j b))
 
 -- ---- two segments eo and em, with neither other end on the other segment: on one line they point away from each
 -- other, for of three points on a line one lies on the segment of the others
-away : (e o m : Point) → ¬ (e ≡ o) → ¬ (m ≡ e) → ¬ On m e o → ¬ On o e m → OnlyEnd e o m
-away e o m eo me off-m off-o t = go (≤ℤ-total (Dot e o m) (pos 0)) (≤ℤ-total (Dot o m e) (pos 0))
+away : (e o m : Point) → ¬ On m e o → ¬ On o e m → OnlyEnd e o m
+away e o m off-m off-o t = go (≤ℤ-total (Dot e o m) (pos 0)) (≤ℤ-total (Dot o m e) (pos 0))
   where
     go : (Dot e o m ≤ℤ pos 0) ⊎ (pos 0 <ℤ Dot e o m) → (Dot o m e ≤ℤ pos 0) ⊎ (pos 0 <ℤ Dot o m e) →
         Dot e o m ≤ℤ pos 0
     go (inl h) k = h
     go (inr h) (inl k) =
-        absurd (off-o (on-turn (dot-on o m e me (ring1 (env4 e o m m) (TurnE C A B) O I (TurnE A B C) O t refl) k)))
-    go (inr h) (inr k) = absurd (off-m (dot-on m e o eo t (not-all e o m t h k)))
+        absurd (off-o (on-turn (dot-on (ring1 (env4 e o m m) (TurnE C A B) O I (TurnE A B C) O t refl) k)))
+    go (inr h) (inr k) = absurd (off-m (dot-on t (not-all e o m t h k)))
 
 -- ---- the sides that end at corner i, where no third corner lies on ij
 module _ (d : List ℤ) (simple : Simple d) (i j : ℕ) (hi : i < corners d) (hj : j < corners d) (apart : ¬ Beside d i j)
@@ -87,8 +87,7 @@ module _ (d : List ℤ) (simple : Simple d) (i j : ℕ) (hi : i < corners d) (hj
   from-i : (m : ℕ) → m < corners d → ¬ (corner d m ≡ corner d i) → ¬ (m ≡ j) →
       ¬ On (corner d j) (corner d i) (corner d m) → OnlyCorner d i i j i m
   from-i m hm mi mj off =
-      only-sound (away (corner d i) (corner d j) (corner d m)
-      (corners-apart d simple i j hi hj (λ e. apart (inl e))) mi (λ o. third (no-third m hm o)) off)
+      only-sound (away (corner d i) (corner d j) (corner d m) (λ o. third (no-third m hm o)) off)
     where
       third : (m ≡ i) ⊎ (m ≡ j) → ⊥
       third (inl e) = mi (ap (corner d) e)
@@ -121,7 +120,7 @@ module _ (d : List ℤ) (simple : Simple d) (i j : ℕ) (hi : i < corners d) (hj
       ¬ Shared (corner d i) (corner d j) (corner d k) (corner d (after d k))
   other-side k hk not-i not-j s =
       go (how-met (corner d i) (corner d j) (corner d k) (corner d (after d k))
-      (corners-apart d simple i j hi hj (λ e. apart (inl e))) (simple .two-ends k hk) s)
+      (corners-apart d simple i j hi hj (λ e. apart (inl e))) s)
     where
       third : {m : ℕ} → ((m ≡ i) → EndsAt d k i) → ((m ≡ j) → EndsAt d k j) → (m ≡ i) ⊎ (m ≡ j) → ⊥
       third f g (inl e) = not-i (f e)

@@ -15,9 +15,10 @@ use Rattle.whole.specs.Order.{Positive, nonneg-pos, positive-pos, nonneg-mul, p
 use Rattle.whole.specs.Order.{positive-pred, le-sub, sub-lt, lt-sub, ≤ℤ-<ℤ-trans, ≤ℤ-total, <ℤ-le}
 use Rattle.outline.specs.Drawing.{Point, Turn}
 use Rattle.outline.specs.Spell.{PointE, A, B, O, I, TurnE}
-use Rattle.outline.specs.Parity.{_⊕_, pt, higher, passes, crosses, out}
-use Rattle.outline.specs.ParitySide.{Ltr}
-use Rattle.outline.specs.ParityRound.{Ltr-scale, ltZ-sub}
+use Rattle.outline.specs.Odd.{_⊕_}
+use Rattle.outline.specs.Parity.{pt, out}
+use Rattle.outline.specs.Passing.{higher, passes, crosses}
+use Rattle.outline.specs.Signs.{is-above, above-scale, lt-above}
 use Rattle.outline.specs.Compare.{plus-off, less, not-less, is-less, is-not-less}
 use Rattle.outline.specs.Inner.{Inner}
 use Rattle.outline.specs.Rising.{Rises, rising, falling, rises-once, none-back}
@@ -107,21 +108,21 @@ module _ (D e : ℤ) (a b : Point) (h : ℤ) (D+ : Positive D) (fit : Divides e 
 
   -- left of the side is left of its place
   up-turn : (X : ℤ) → Positive (b .y -ℤ a .y) →
-      Ltr (Turn (out (scale D) a) (out (scale D) b) (row-at X)) ≡ ltZ X (place D e a b h)
+      is-above (Turn (out (scale D) a) (out (scale D) b) (row-at X)) ≡ ltZ X (place D e a b h)
   up-turn X k =
-      ap Ltr (ring1 (ρ X) (TurnE (growE A) (growE B) (record { x = v 7; y = v 4 :* twiceE }))
+      ap is-above (ring1 (ρ X) (TurnE (growE A) (growE B) (record { x = v 7; y = v 4 :* twiceE }))
       (scaleE :* (B .y :- A .y) :* (placeE :- v 7)) (neg (scaleE :* shareE)) (v 5 :* (B .y :- A .y)) (v 4)
       (fit-up k) refl)
-      ∙ Ltr-scale (scale D *ℤ (b .y -ℤ a .y)) (place D e a b h -ℤ X) (positive-mul scale+ k)
-      ∙ sym (ltZ-sub X (place D e a b h))
+      ∙ above-scale (scale D *ℤ (b .y -ℤ a .y)) (place D e a b h -ℤ X) (positive-mul scale+ k)
+      ∙ sym (lt-above X (place D e a b h))
 
   down-turn : (X : ℤ) → Positive (a .y -ℤ b .y) →
-      Ltr (Turn (out (scale D) b) (out (scale D) a) (row-at X)) ≡ ltZ X (place D e a b h)
+      is-above (Turn (out (scale D) b) (out (scale D) a) (row-at X)) ≡ ltZ X (place D e a b h)
   down-turn X k =
-      ap Ltr (ring1 (ρ X) (TurnE (growE B) (growE A) (record { x = v 7; y = v 4 :* twiceE }))
+      ap is-above (ring1 (ρ X) (TurnE (growE B) (growE A) (record { x = v 7; y = v 4 :* twiceE }))
       (scaleE :* (A .y :- B .y) :* (placeE :- v 7)) (scaleE :* shareE) (v 5 :* (B .y :- A .y)) (v 4) (fit-down k) refl)
-      ∙ Ltr-scale (scale D *ℤ (a .y -ℤ b .y)) (place D e a b h -ℤ X) (positive-mul scale+ k)
-      ∙ sym (ltZ-sub X (place D e a b h))
+      ∙ above-scale (scale D *ℤ (a .y -ℤ b .y)) (place D e a b h -ℤ X) (positive-mul scale+ k)
+      ∙ sym (lt-above X (place D e a b h))
 
   -- ---- the side passes right of X where it goes through the row, at a place right of X
   pub crosses-row : (X : ℤ) →
@@ -132,10 +133,10 @@ module _ (D e : ℤ) (a b : Point) (h : ℤ) (D+ : Positive D) (fit : Divides e 
       ∙ go (ltZ h (a .y)) (ltZ h (b .y)) refl refl
     where
       up : Bool
-      up = Ltr (Turn (out (scale D) a) (out (scale D) b) (row-at X))
+      up = is-above (Turn (out (scale D) a) (out (scale D) b) (row-at X))
 
       down : Bool
-      down = Ltr (Turn (out (scale D) b) (out (scale D) a) (row-at X))
+      down = is-above (Turn (out (scale D) b) (out (scale D) a) (row-at X))
 
       go : (s t : Bool) → ltZ h (a .y) ≡ s → ltZ h (b .y) ≡ t →
           passes s t up down ≡ both (s ⊕ t) (ltZ X (place D e a b h))

@@ -22,7 +22,9 @@ use Rattle.outline.specs.Parity.{odd, out, large, InOn}
 use Rattle.outline.specs.EveryPoint.{sum2}
 use Rattle.outline.specs.Near.{near}
 use Rattle.outline.specs.Reading.{round, round-inner, round-closed, in-read, in-said}
-use Rattle.outline.specs.CentreTest.{half, apart-length, corners-apart}
+use Rattle.outline.specs.CentreTest.{half}
+use Rattle.outline.specs.Along.{apart-length}
+use Rattle.outline.specs.CornersApart.{corners-apart}
 use Rattle.outline.specs.Compare.{plus-off}
 use Rattle.outline.specs.Inner.{inner-half, inner-near}
 use Rattle.outline.specs.Met.{Met, met}

@@ -16,8 +16,10 @@ use Rattle.whole.specs.Order.{Nonneg, Positive, nonneg-pos, positive-nonneg, po
 use Rattle.whole.specs.Order.{sub-lt, ≤ℤ-trans, ≤ℤ-<ℤ-trans, <ℤ-le}
 use Rattle.outline.specs.Drawing.{Point, Turn}
 use Rattle.outline.specs.Spell.{A, B, C, D, P, Q, O, I, env, TurnE}
-use Rattle.outline.specs.Parity.{_⊕_, higher, passes, crosses}
-use Rattle.outline.specs.ParitySide.{Ltr, yes-of, no-of, inside}
+use Rattle.outline.specs.Odd.{_⊕_}
+use Rattle.outline.specs.Passing.{higher, passes, crosses}
+use Rattle.outline.specs.Signs.{is-above, above-yes, above-no}
+use Rattle.outline.specs.ParitySide.{inside}
 use Rattle.outline.specs.Compare.{less, not-less}
 use Rattle.outline.specs.Inner.{Inner, weight, inner-turned, inner-line, inner-between, inner-level}
 use Rattle.outline.specs.Rising.{Rises, rising, falling, leftward, rightward}
@@ -86,17 +88,17 @@ module _ (u w a b : Point) (i : Inner w a b) (left : Positive (Turn a b u)) wher
       (i .mean-x) (i .mean-y) refl)
       (positive-mul (i .k+) left))
 
-  a-not : Ltr (Turn u w a) ≡ false
-  a-not = no-of (Turn u w a) (by-ring ρ Nonneg (TurnE B A C) (neg (TurnE A B C)) refl (positive-nonneg a-right))
+  a-not : is-above (Turn u w a) ≡ false
+  a-not = above-no (Turn u w a) (by-ring ρ Nonneg (TurnE B A C) (neg (TurnE A B C)) refl (positive-nonneg a-right))
 
-  b-not : Ltr (Turn w u b) ≡ false
-  b-not = no-of (Turn w u b) (by-ring ρ Nonneg (TurnE A B D) (neg (TurnE B A D)) refl (positive-nonneg b-left))
+  b-not : is-above (Turn w u b) ≡ false
+  b-not = above-no (Turn w u b) (by-ring ρ Nonneg (TurnE A B D) (neg (TurnE B A D)) refl (positive-nonneg b-left))
 
   -- what the side counts at u
   at-u : crosses u a b ≡ passes (higher u a) (higher u b) true false
   at-u =
-      ap₂ (passes (higher u a) (higher u b)) (yes-of left)
-      (no-of (Turn b a u) (by-ring ρ Nonneg (TurnE C D A) (neg (TurnE D C A)) refl (positive-nonneg left)))
+      ap₂ (passes (higher u a) (higher u b)) (above-yes left)
+      (above-no (Turn b a u) (by-ring ρ Nonneg (TurnE C D A) (neg (TurnE D C A)) refl (positive-nonneg left)))
 
   at-w : crosses w a b ≡ false
   at-w = no-crossing w a b (inner-line i)
@@ -105,13 +107,13 @@ module _ (u w a b : Point) (i : Inner w a b) (left : Positive (Turn a b u)) wher
   to-up e h =
       ap₂ _⊕_ at-u at-w ∙ h
       ∙ ap₂ (λ s t. (inside (higher u a) (higher w a) s ⊕ inside (higher u b) (higher w b) t) ⊕ e)
-      (sym (yes-of a-right)) (sym b-not)
+      (sym (above-yes a-right)) (sym b-not)
 
   to-down : (e : Bool) → Down (higher u a) (higher u b) (higher w a) (higher w b) e → Change w u a b e
   to-down e h =
       ap₂ _⊕_ at-w at-u ∙ h
       ∙ ap₂ (λ s t. (inside (higher w a) (higher u a) s ⊕ inside (higher w b) (higher u b) t) ⊕ e)
-      (sym a-not) (sym (yes-of b-left))
+      (sym a-not) (sym (above-yes b-left))
 
   -- ---- the heights
   one-up : u .y <ℤ b .y → a .y ≤ℤ w .y → Change u w a b true

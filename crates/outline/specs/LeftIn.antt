@@ -10,7 +10,7 @@ use lib.IntN.{ℤ, pos, _+ℤ_, _-ℤ_, _*ℤ_}
 use lib.Signed.{_≤ℤ_, clashℤ}
 use Rattle.outline.specs.Drawing.{Sound, corner, corners, after, area-to}
 use Rattle.outline.specs.Reading.{round, round-inner, round-closed}
-use Rattle.outline.specs.CentreTest.{simple-read}
+use Rattle.outline.specs.CornersApart.{simple-read}
 use Rattle.outline.specs.AtCorner.{left-of, all-left}
 use Rattle.outline.specs.AreaByRows.{area, area-low}
 

@@ -7,11 +7,10 @@ use mathlib.Core.List.{List, [], _∷_}
 use lib.IntN.{ℤ, pos, _+ℤ_, _-ℤ_, _*ℤ_}
 use Rattle.whole.specs.Ring.{E, v, _:+_, _:-_, _:*_, ring1, ring2, by-ring}
 use Rattle.whole.specs.Order.{Nonneg, Positive, nonneg-add, nonneg-mul, positive-nonneg, positive-add, positive-mul}
-use Rattle.whole.specs.Order.{positive-pred, zero-cancel, le-sub, sub-le}
+use Rattle.whole.specs.Order.{positive-pred, zero-cancel, le-sub, sub-le, diff-zero}
 use Rattle.outline.specs.Drawing.{Point, Shared}
 use Rattle.outline.specs.Spell.{O, I, At}
 use Rattle.outline.specs.Parity.{out}
-use Rattle.outline.specs.Stretch.{from-zero}
 use Rattle.outline.specs.Inner.{Inner, weight}
 
 pub record Met (a b e f : Point) : Type 0 where
@@ -70,7 +69,7 @@ module _ (K : ℤ) (K+ : Positive K) (a b e f u w : Point) (i : Inner u (out K a
       s .r *ℤ (sum-u *ℤ sum-w) *ℤ a +ℤ p *ℤ (b -ℤ a) ≡
       s .r *ℤ (sum-u *ℤ sum-w) *ℤ e +ℤ s .q *ℤ (sum-u *ℤ sum-w) *ℤ (f -ℤ e)
   axis u w a b e f mean-u mean-w same =
-      from-zero _ _ (zero-cancel K+
+      diff-zero _ _ (zero-cancel K+
       (ring2 (ρ u w a b e f) (v 7 :* (At RE (v 10) PE (v 11) :- At RE (v 12) QE (v 13)))
       (SumU :* SumW :* (on-uw :- on-ef))
       ((v 6 :- v 4) :* SumW) (v 0 :* (v 7 :* v 10 :- v 8) :+ v 1 :* (v 7 :* v 11 :- v 8)) O

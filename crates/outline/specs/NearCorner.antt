@@ -12,8 +12,9 @@ use lib.Signed.{_≤ℤ_}
 use Rattle.whole.specs.Order.{Positive, positive-pos, positive-nonneg, positive-add, ≤ℤ-trans}
 use Rattle.outline.specs.Drawing.{Point, Shared}
 use Rattle.outline.specs.Placed.{On}
-use Rattle.outline.specs.Parity.{_⊕_, odd, out, large}
-use Rattle.outline.specs.Between.{last}
+use Rattle.outline.specs.Odd.{_⊕_}
+use Rattle.outline.specs.Parity.{odd, out, large}
+use Rattle.outline.specs.Topmost.{last}
 use Rattle.outline.specs.EveryPoint.{Simple}
 use Rattle.outline.specs.Near.{near, Off, off-side}
 use Rattle.outline.specs.Compare.{first-part, second-part}

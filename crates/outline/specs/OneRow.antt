@@ -16,7 +16,7 @@ use lib.Signed.{_≤ℤ_, ltZ, ≤ℤ-refl}
 use Rattle.whole.specs.Ring.{v, _:+_, _:-_, _:*_, neg, ring}
 use Rattle.whole.specs.Order.{nonneg-pos, sub-le, +ℤ-mono}
 use Rattle.outline.specs.Spell.{O, I}
-use Rattle.outline.specs.Parity.{_⊕_}
+use Rattle.outline.specs.Odd.{_⊕_}
 use Rattle.outline.specs.Compare.{less, not-less}
 use Rattle.outline.specs.Sums.{sum, sum-same, sum-nought, sum-add, sum-times, sum-steps, Bounds, bounds}
 use Rattle.outline.specs.Sums.{downward}

@@ -16,11 +16,10 @@ use Rattle.whole.specs.Order.{positive-mul, positive-pred, positive-not, zero-c
 use Rattle.outline.specs.Drawing.{Point, Shared, Turn}
 use Rattle.outline.specs.Segments.{one-side, turned-first, exchanged, dot-nonneg}
 use Rattle.outline.specs.Spell.{PointE, A, B, C, D, P, O, I, env, outE, TurnE, DotE}
-use Rattle.outline.specs.Placed.{On}
+use Rattle.outline.specs.Placed.{On, on-dot}
 use Rattle.outline.specs.Parity.{out}
-use Rattle.outline.specs.Through.{Thru}
+use Rattle.outline.specs.Through.{RunsThrough}
 use Rattle.outline.specs.Near.{near}
-use Rattle.outline.specs.CentreMirror.{on-dot}
 use Rattle.outline.specs.Directions.{Away, right-left, in-line-back}
 use Rattle.outline.specs.Inner.{inner-turned, inner-near}
 use Rattle.outline.specs.Rising.{Rises}
@@ -76,7 +75,7 @@ module _ (W I′ J e : Point) (K : ℤ) (K+ : Positive K) (left : Positive (Turn
 
   -- it does
   pub ray-thru : Positive (Turn W I′ e) → Positive (Turn W e J) → Turn W I′ J ≤ℤ K →
-      Thru (near W K I′) (near W K J) (out K e) (out K W)
+      RunsThrough (near W K I′) (near W K J) (out K e) (out K W)
   ray-thru hx hy h = record {
     t1 = by-ring (env W I′ J e K (pos 0) (pos 0)) Positive
         (P :+ (P :* (TurnE A B D :- I) :+ P :* (TurnE A D C :- I) :+ (P :- TurnE A B C)))
@@ -94,7 +93,7 @@ ray-off W e J K K+ away o =
     positive-not (positive-mul K+ (away (in-line-back W e J (zero-cancel K+ (turn-from W J e K ∙ o .line)))))
     (by-ring (env W J e e K (pos 0) (pos 0)) Nonneg (O :- DotE (nearE B) (outE A) (outE C) :+ DotE A B B)
     (neg (P :* neg (DotE A B C))) refl
-    (nonneg-add (le-sub (on-dot (near W K J) (out K W) (out K e) o)) (dot-nonneg W J)))
+    (nonneg-add (le-sub (on-dot o)) (dot-nonneg W J)))
 
 -- ---- from the near point of I to that of e, on the side between W and e: the side changes the parity as it rises
 module _ (W z e : Point) (K : ℤ) (big : Positive (K -ℤ pos 1)) where

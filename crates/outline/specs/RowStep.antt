@@ -10,12 +10,11 @@ use lib.IntN.{ℤ, pos, _+ℤ_, _-ℤ_, _*ℤ_, *ℤ-zero}
 use lib.Signed.{ltZ}
 use Rattle.whole.specs.Ring.{E, v, _:+_, _:-_, _:*_, neg, ring, ring1, by-ring}
 use Rattle.whole.specs.Order.{Nonneg, Positive, Sign, plus, nought, minus, sign, nonneg-pos, positive-pos}
-use Rattle.whole.specs.Order.{positive-nonneg, positive-add, positive-pred, sub-le, sub-lt}
+use Rattle.whole.specs.Order.{positive-nonneg, positive-add, positive-pred, sub-le, sub-lt, diff-zero}
 use Rattle.outline.specs.Spell.{O, I}
-use Rattle.outline.specs.Parity.{_⊕_}
-use Rattle.outline.specs.Stretch.{from-zero}
+use Rattle.outline.specs.Xor.{⊕-move}
+use Rattle.outline.specs.Odd.{_⊕_}
 use Rattle.outline.specs.Compare.{less, not-less}
-use Rattle.outline.specs.TruthSums.{⊕-not}
 use Rattle.outline.specs.AllChanges.{total}
 use Rattle.outline.specs.Sums.{sum, sum-same, sum-add}
 
@@ -79,7 +78,7 @@ place z x = go (sign (x -ℤ z))
           (positive-pos 0)));
       from-z = not-less z x
           (sub-le (subst Nonneg (ring1 (x ∷ z ∷ []) O (v 1 :- v 0) I (v 0 :- v 1) O e refl) (nonneg-pos 0)));
-      stands = just-passed (from-zero x z e);
+      stands = just-passed (diff-zero x z e);
     }
     go (minus h) = record {
       s = false;
@@ -157,7 +156,7 @@ module _ (high : ℕ → Bool) (X : ℕ → ℤ) where
             (ap₂ _+ℤ_ a e
             ∙ ring (lifts z t ∷ lift high k ∷ (one-if (ltZ z (X t)) *ℤ lift high t) ∷ []) (v 0 :+ v 1 :+ v 2)
             (v 0 :+ v 2 :+ v 1) refl)
-            (ap₂ _⊕_ f b ∙ ⊕-not (both (through high t) (ltZ z (X t))) (odd-right z t))
+            (ap₂ _⊕_ f b ∙ ⊕-move (both (through high t) (ltZ z (X t))) (odd-right z t))
 
         same-bit : ltZ (z -ℤ pos 1) (X t) ≡ ltZ z (X t) → Step z t → Step z (suc t)
         same-bit e = same (ap (λ b. one-if b *ℤ lift high t) e) (ap (both (through high t)) e)

@@ -15,9 +15,12 @@ use Rattle.whole.specs.Order.{Positive}
 use Rattle.outline.specs.Drawing.{Point, Shared, Turn}
 use Rattle.outline.specs.Segments.{turned-first, Dot}
 use Rattle.outline.specs.Spell.{A, B, C, O, I, env4, TurnE}
-use Rattle.outline.specs.Parity.{_⊕_, higher, passes, crosses}
-use Rattle.outline.specs.ParitySide.{Ltr, inside, strip, side, ⊕-no}
-use Rattle.outline.specs.Through.{Thru, through+, ⊕-comm, crosses-turn}
+use Rattle.outline.specs.Odd.{_⊕_}
+use Rattle.outline.specs.Passing.{higher, passes, crosses}
+use Rattle.outline.specs.Signs.{is-above}
+use Rattle.outline.specs.ParitySide.{inside, strip, side}
+use Rattle.outline.specs.Xor.{⊕-no, ⊕-comm}
+use Rattle.outline.specs.Through.{RunsThrough, through, crosses-turn}
 use Rattle.outline.specs.TruthSums.{⊕-yes}
 use Rattle.outline.specs.Directions.{all-in-line}
 
@@ -51,11 +54,11 @@ apart-changes u w a b apart = record {
 }
 
 -- ---- a side that runs through it
-pub thru-changes : (u w a b : Point) → Thru u w a b → Changes u w a b true
+pub thru-changes : (u w a b : Point) → RunsThrough u w a b → Changes u w a b true
 thru-changes u w a b t = record {
-  up = λ h. through+ u w a b h t ∙ sym (⊕-yes (strip u w a ⊕ strip u w b));
+  up = λ h. through u w a b h t ∙ sym (⊕-yes (strip u w a ⊕ strip u w b));
   down = λ h. change-turned w u b a true
-      (through+ w u b a h (record { t1 = t .t2; t2 = t .t1; t3 = t .t4; t4 = t .t3 })
+      (through w u b a h (record { t1 = t .t2; t2 = t .t1; t3 = t .t4; t4 = t .t3 })
       ∙ sym (⊕-yes (strip w u b ⊕ strip w u a)));
 }
 
@@ -75,13 +78,13 @@ no-inside false false = refl
 -- it does not pass to the right of a point on its line
 pub no-crossing : (z a b : Point) → Turn a b z ≡ pos 0 → crosses z a b ≡ false
 no-crossing z a b e =
-    ap₂ (passes (higher z a) (higher z b)) (ap Ltr e)
-    (ap Ltr (ring1 (env4 a b z z) (TurnE B A C) O (neg I) (TurnE A B C) O e refl))
+    ap₂ (passes (higher z a) (higher z b)) (ap is-above e)
+    (ap is-above (ring1 (env4 a b z z) (TurnE B A C) O (neg I) (TurnE A B C) O e refl))
     ∙ no-passes (higher z a) (higher z b)
 
 -- and the points of the line are not in the strip
 no-strip : (u w a : Point) → Turn w u a ≡ pos 0 → strip u w a ≡ false
-no-strip u w a e = ap (λ t. inside (higher u a) (higher w a) (Ltr t)) e ∙ no-inside (higher u a) (higher w a)
+no-strip u w a e = ap (λ t. inside (higher u a) (higher w a) (is-above t)) e ∙ no-inside (higher u a) (higher w a)
 
 line-change : (u w a b : Point) → Positive (Dot a b b) → Turn a b u ≡ pos 0 → Turn a b w ≡ pos 0 →
     Change u w a b false

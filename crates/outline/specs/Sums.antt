@@ -13,7 +13,7 @@ use Rattle.whole.specs.Ring.{v, _:+_, _:-_, neg, ring, by-ring}
 use Rattle.whole.specs.Order.{Nonneg, Positive, positive-pos, le-sub, sub-le, sub-lt, ≤ℤ-trans, ≤ℤ-<ℤ-trans, ≤ℤ-total}
 use Rattle.whole.specs.Order.{<ℤ-le}
 use Rattle.outline.specs.Spell.{O, I}
-use Rattle.outline.specs.Between.{last}
+use Rattle.outline.specs.Topmost.{last}
 
 -- ---- f 0 + .. + f (n - 1)
 abbrev pub sum : (ℕ → ℤ) → ℕ → ℤ

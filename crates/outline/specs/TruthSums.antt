@@ -1,17 +1,12 @@
 -- Sums of truth values: a ⊕ b is true where exactly one of the two is.
 use mathlib.Core.Path.{_≡_, refl, sym, _∙_, ap}
 use mathlib.Core.Bool.{Bool, true, false, not}
-use Rattle.outline.specs.Parity.{_⊕_}
-use Rattle.outline.specs.ParitySide.{⊕-same}
-use Rattle.outline.specs.ParityRound.{⊕-swap, ⊕-zero}
+use Rattle.outline.specs.Odd.{_⊕_}
+use Rattle.outline.specs.Xor.{⊕-same, ⊕-swap, ⊕-zero}
 
 pub ⊕-yes : (a : Bool) → a ⊕ true ≡ not a
 ⊕-yes true = refl
 ⊕-yes false = refl
-
-pub ⊕-not : (a b : Bool) → a ⊕ not b ≡ not (a ⊕ b)
-⊕-not true b = refl
-⊕-not false b = refl
 
 pub not-not : (a : Bool) → not (not a) ≡ a
 not-not true = refl

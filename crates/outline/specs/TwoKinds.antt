@@ -13,7 +13,7 @@ use Rattle.outline.specs.Seeing.{Passes, passes-back, beside-back, besid
 use Rattle.outline.specs.Placed.{On}
 use Rattle.outline.specs.Parity.{pt, odd, large}
 use Rattle.outline.specs.Reading.{round}
-use Rattle.outline.specs.CentreTest.{middle-enough, sees-middle}
+use Rattle.outline.specs.CentreMiddle.{middle-enough, sees-middle}
 use Rattle.outline.specs.CentreSight.{centre-beside}
 use Rattle.outline.specs.Way.{Free}
 use Rattle.outline.specs.Barred.{crossed-unseen, grazed-unseen}

@@ -8,13 +8,14 @@ use Prim.Native.Nat.{ℕ, suc, _<_}
 use native.Mathlib.Decide.{ℕ-discrete}
 use lib.IntN.{ℤ, pos, _-ℤ_, _*ℤ_, *ℤ-comm}
 use Rattle.whole.specs.Laws.{*ℤ-assoc}
-use Rattle.whole.specs.Ring.{v, _:-_, _:*_, ring, by-ring}
+use Rattle.whole.specs.Ring.{v, _:-_, ring}
 use Rattle.whole.specs.Order.{Positive, positive-pos, positive-mul}
 use Rattle.outline.specs.Drawing.{Point}
-use Rattle.outline.specs.Segments.{Dot}
-use Rattle.outline.specs.Spell.{A, B, P, O, env, outE, DotE}
-use Rattle.outline.specs.Parity.{_⊕_, pt, odd, out, large}
-use Rattle.outline.specs.ParityRound.{odd-scale, ⊕-zero}
+use Rattle.outline.specs.Spell.{O}
+use Rattle.outline.specs.Odd.{_⊕_}
+use Rattle.outline.specs.Parity.{pt, odd, out, large}
+use Rattle.outline.specs.Scale.{len-scale, odd-scale}
+use Rattle.outline.specs.Xor.{⊕-zero}
 use Rattle.outline.specs.EveryPoint.{Simple, sum2}
 use Rattle.outline.specs.Compare.{plus-off}
 use Rattle.outline.specs.Inner.{Inner, inner-line, inner-grown, inner-half}
@@ -36,12 +37,6 @@ inner-out : (k l : ℤ) (q a b : Point) → Inner q (out l a) (out l b) → Inne
 inner-out k l q a b i =
     subst (λ z. Inner (out k q) z (out (k *ℤ l) b)) (out-out k l a)
     (subst (λ z. Inner (out k q) (out k (out l a)) z) (out-out k l b) (inner-grown k q (out l a) (out l b) i))
-
-pub length-out : (K : ℤ) (a b : Point) → Positive K → Positive (Dot a b b) →
-    Positive (Dot (out K a) (out K b) (out K b))
-length-out K a b K+ h =
-    by-ring (env a b b b K (pos 0) (pos 0)) Positive (P :* (P :* DotE A B B)) (DotE (outE A) (outE B) (outE B)) refl
-    (positive-mul K+ (positive-mul K+ h))
 
 -- ---- a segment ab on which no side changes the parity between the ends
 abbrev pub Steady : (ℕ → Point) → ℕ → Point → Point → Type 0
@@ -96,7 +91,7 @@ module _ (c : ℕ → Point) (n : ℕ) where
         go (yes e) =
             subst (λ l. Changes u w (out K (c l)) (out K (c (suc l))) false) (sym e)
             (line-changes u w (out K (c k)) (out K (c (suc k)))
-            (length-out K (c k) (c (suc k)) K+ (simple .ends k hk)) (inner-line i) (inner-line j))
+            (len-scale K (c k) (c (suc k)) K+ (simple .ends k hk)) (inner-line i) (inner-line j))
         go (no e) =
             apart-changes u w (out K (c m)) (out K (c (suc m)))
             (λ s. side-unmet k m hk hm e (met K K+ (c k) (c (suc k)) (c m) (c (suc m)) u w i j s))

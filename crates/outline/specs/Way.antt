@@ -11,7 +11,7 @@ use Prim.Native.Nat.{ℕ, _<_}
 use lib.IntN.{ℤ}
 use Rattle.outline.specs.Drawing.{corner, corners, after}
 use Rattle.outline.specs.Placed.{On}
-use Rattle.outline.specs.Stretch.{Crosses}
+use Rattle.outline.specs.Crossing.{Crosses}
 
 module _ (d : List ℤ) (i j : ℕ) where
   -- side k crosses the segment
