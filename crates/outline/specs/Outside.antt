@@ -1,9 +1,9 @@
 -- On a sound drawing a corner j strictly outside the closed angle at corner i is not seen from i by a centre, whatever
 -- stands between: close to i, on the way to j, one is outside the drawing.
 --
---       q        inside the closed angle are its two sides as well; strictly outside
---        \       is what is right of a side there, of both where the angle is not sharp
---     j   \
+--       q                  the closed angle has its two sides as well; strictly outside is
+--        \     j           what lies right of a side, and of both where the angle does not
+--         \                turn left
 --   p ---- i
 use mathlib.Core.Path.{_≡_, refl, sym, _∙_, ap, subst}
 use mathlib.Core.Bool.{not, false≢true}
