@@ -1,6 +1,6 @@
 -- A point of the segment from corner i to corner j that is on no side, where no side crosses the segment: it lies in
 -- the outline if the points half way between corners on the segment are in or on. For it lies between two such
--- corners, the last before it and the first after it, and has the parity of the point half way between those two
+-- corners, the last before it and the first after it, and has the parity of the point half way between them
 -- (`Stretch`).
 --
 --      i ---- k ---- z ----w---------- l --- j       w half way between k and l
@@ -62,8 +62,8 @@ module _ (i j w K L : Point) (hx : pos 2 *ℤ w .x ≡ K .x +ℤ L .x) (hy : pos
 half-low : (t k l : ℤ) → pos 2 *ℤ t ≡ k +ℤ l → k <ℤ l → k <ℤ t
 half-low t k l e h =
     sub-lt (positive-cancel {k = pos 2} (nonneg-pos 2)
-    (subst Positive (ring1 (t ∷ k ∷ l ∷ []) (v 2 :- v 1) (two :* (v 0 :- v 1)) (neg I) (two :* v 0) (v 1 :+ v 2) e
-    refl)
+    (subst Positive
+    (ring1 (t ∷ k ∷ l ∷ []) (v 2 :- v 1) (two :* (v 0 :- v 1)) (neg I) (two :* v 0) (v 1 :+ v 2) e refl)
     (lt-sub h)))
 
 half-high : (t k l : ℤ) → pos 2 *ℤ t ≡ k +ℤ l → k <ℤ l → t <ℤ l

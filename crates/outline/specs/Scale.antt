@@ -1,5 +1,5 @@
--- A drawing k times as large: turns grow by the square of k, and what a point's place on a side, the sides to its
--- right and the crossings of segments say stays as it is.
+-- A drawing k times as large: turns grow by the square of k, and whether a point is on a side, which sides are
+-- to its right, and so whether it is in or on stays as it is.
 use mathlib.Core.Path.{_≡_, refl, sym, _∙_, ap}
 use mathlib.Core.Logic.{inl, inr}
 use mathlib.Core.List.{[], _∷_}
@@ -42,8 +42,8 @@ len-scale k a b h n+ =
     (positive-mul (positive-mul h h) n+)
 
 -- ---- the sides to the right
-left-scale : (k : ℤ) (a b z : Point) → Positive k → is-above (Turn (out k a) (out k b) (out k z)) ≡ is-above
-    (Turn a b z)
+left-scale : (k : ℤ) (a b z : Point) → Positive k →
+    is-above (Turn (out k a) (out k b) (out k z)) ≡ is-above (Turn a b z)
 left-scale k a b z h =
     ap is-above (turn-scale k a b z) ∙ above-scale k (k *ℤ Turn a b z) h ∙ above-scale k (Turn a b z) h
 

@@ -37,7 +37,8 @@ module _ (c : ℕ → Point) (n : ℕ) (closed : c n ≡ c 0) (simple : Simple c
       where
         at : ¬ Dec (m ≡ i)
         at (yes f) =
-            <ℤ-irrefl (subst Positive (turn-end (c j) (c i)) (subst (λ k. Positive (Turn (c j) (c i) (c k))) f right))
+            <ℤ-irrefl
+            (subst Positive (turn-end (c j) (c i)) (subst (λ k. Positive (Turn (c j) (c i) (c k))) f right))
         at (no f) = not-first (c i) (c j) (c m) (c (suc m)) right left s (c (suc i)) (simple .apart m i m< i< f) e
 
     not-j : ¬ (s .r -ℤ s .p ≡ pos 0)
@@ -45,8 +46,8 @@ module _ (c : ℕ → Point) (n : ℕ) (closed : c n ≡ c 0) (simple : Simple c
       where
         at : ¬ Dec (m ≡ j)
         at (yes f) =
-            <ℤ-irrefl (subst Positive (turn-start (c j) (c i)) (subst (λ k. Positive (Turn (c j) (c i) (c k))) f
-            right))
+            <ℤ-irrefl
+            (subst Positive (turn-start (c j) (c i)) (subst (λ k. Positive (Turn (c j) (c i) (c k))) f right))
         at (no f) = not-last (c i) (c j) (c m) (c (suc m)) right left s (c (suc j)) (simple .apart m j m< j< f) e
 
     -- and no other side holds it
@@ -119,8 +120,8 @@ module _ (c : ℕ → Point) (n : ℕ) (closed : c n ≡ c 0) (simple : Simple c
         k+ = positive-mul {x = pos 2} (positive-pos 1) n+;
         m0 = nonneg-add (along-low p a b op) (along-low q a b oq);
         m1 =
-            sub-le (by-ring (s ∷ t ∷ len2 a b ∷ []) Nonneg (v 2 :- v 0 :+ (v 2 :- v 1)) (two :* v 2 :- (v 0 :+ v 1))
-            refl
+            sub-le (by-ring (s ∷ t ∷ len2 a b ∷ []) Nonneg
+            (v 2 :- v 0 :+ (v 2 :- v 1)) (two :* v 2 :- (v 0 :+ v 1)) refl
             (nonneg-add (le-sub (along-high p a b op)) (le-sub (along-high q a b oq))));
         fx = axis (len2 a b) (p .x) (q .x) (a .x) (b .x) s t (on-x a b p (op .line)) (on-x a b q (oq .line));
         fy = axis (len2 a b) (p .y) (q .y) (a .y) (b .y) s t (on-y a b p (op .line)) (on-y a b q (oq .line));
