@@ -2,9 +2,10 @@
 -- the heights of the four points: weighed by their turns, a and b together stand as high as P and Q. So, by the order
 -- of the heights, two turns that are not negative make the other two so (and then the segments meet, `Meet`).
 --
---      a \  / Q      Turn Q P a, Turn P Q b, Turn a b P and Turn b a Q: all above zero where they cross
---         \/
---      P / \ b
+--      b   Q      Turn Q P a, Turn P Q b, Turn a b P and Turn b a Q: all above zero where they cross so
+--       \ /
+--       / \
+--      P   a
 use mathlib.Core.Path.{_≡_, refl, sym, subst}
 use mathlib.Core.Logic.{_⊎_, inl, inr}
 use mathlib.Core.List.{List, [], _∷_}
@@ -110,16 +111,16 @@ module _ {n1 n2 n3 n4 a b p q : ℤ} (r : Balanced n1 n2 n3 n4 a b p q) where
   )
 
   -- here a may stand as high as q, so one of the weights has to be above zero
-  abbrev OneAbove : Type 0
-  OneAbove = (Positive n1 × Nonneg n4) ⊎ (Nonneg n1 × Positive n4)
+  abbrev EitherAbove : Type 0
+  EitherAbove = (Positive n1 × Nonneg n4) ⊎ (Nonneg n1 × Positive n4)
 
-  some : {k l : ℤ} → OneAbove → Positive k → Positive l → Positive (n1 *ℤ k +ℤ n4 *ℤ l)
+  some : {k l : ℤ} → EitherAbove → Positive k → Positive l → Positive (n1 *ℤ k +ℤ n4 *ℤ l)
   some (inl h) i j = positive-add (positive-mul (h .0) i) (nonneg-mul (h .1) (positive-nonneg j))
   some {k} {l} (inr h) i j =
       by-ring (n1 ∷ n4 ∷ k ∷ l ∷ []) Positive (v 1 :* v 3 :+ v 0 :* v 2) (v 0 :* v 2 :+ v 1 :* v 3) refl
       (positive-add (positive-mul (h .1) j) (nonneg-mul (h .0) (positive-nonneg i)))
 
-  pub mid-high : p <ℤ a → a ≤ℤ q → q <ℤ b → OneAbove → Nonneg n2 × Nonneg n3
+  pub mid-high : p <ℤ a → a ≤ℤ q → q <ℤ b → EitherAbove → Nonneg n2 × Nonneg n3
   mid-high pa aq qb h =
       let ab : Positive (b -ℤ a) =
       by-ring weights Positive (Yb :- Yq :+ (Yq :- Ya)) (Yb :- Ya) refl (positive-add (lt-sub qb) (le-sub aq)) in (

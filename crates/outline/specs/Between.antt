@@ -1,6 +1,6 @@
 -- A point of the segment from corner i to corner j that is on no side, where no side crosses the segment: it lies in
 -- the outline if the points half way between corners on the segment are in or on. For it lies between two such
--- corners, the last before it and the first after it, and has the parity of the point half way between those two
+-- corners, the last before it and the first after it, and has the parity of the point half way between them
 -- (`Stretch`).
 --
 --      i ---- k ---- z ----w---------- l --- j       w half way between k and l
@@ -13,11 +13,11 @@ use native.Mathlib.Omega.{arith}
 use native.Mathlib.Nat.{le-refl}
 use lib.IntN.{ℤ, pos, negℤ, _+ℤ_, _*ℤ_}
 use lib.Signed.{_≤ℤ_, _<ℤ_, ≤ℤ-refl, <ℤ-≤ℤ-trans}
-use Rattle.whole.specs.Ring.{E, v, con, _:+_, _:-_, _:*_, neg, ring1, ring2, by-ring}
+use Rattle.whole.specs.Ring.{v, _:+_, _:-_, _:*_, neg, ring1, ring2, by-ring}
 use Rattle.whole.specs.Order.{Nonneg, Positive, nonneg-pos, positive-pos, positive-cancel, zero-cancel, le-sub, sub-le}
 use Rattle.whole.specs.Order.{lt-sub, sub-lt, ≤ℤ-trans, ≤ℤ-total, ≤ℤ-strict, <ℤ-le}
 use Rattle.outline.specs.Drawing.{Point, Turn}
-use Rattle.outline.specs.Spell.{A, B, C, D, O, I, TurnE, DotE, PointE}
+use Rattle.outline.specs.Spell.{A, B, C, D, O, I, TurnE, DotE, PointE, Two}
 use Rattle.outline.specs.Segments.{turn-start, turn-end}
 use Rattle.outline.specs.Tells.{decided, and-tells}
 use Rattle.outline.specs.Tests.{le-tells, number-tells}
@@ -36,9 +36,6 @@ pub record Mid (c : ℕ → Point) (n : ℕ) (K L : Point) : Type 0 where
   pub hy : pos 2 *ℤ w .y ≡ K .y +ℤ L .y
   pub holds : InOn c n w
 
-abbrev two : E
-two = con (pos 2)
-
 -- I and J are A and B, K and L are C and D, and w is spelled so
 abbrev W : PointE
 W = record { x = v 8; y = v 9 }
@@ -50,26 +47,26 @@ module _ (i j w K L : Point) (hx : pos 2 *ℤ w .x ≡ K .x +ℤ L .x) (hy : pos
   half-turn : Turn i j K ≡ pos 0 → Turn i j L ≡ pos 0 → Turn i j w ≡ pos 0
   half-turn ek el =
       zero-cancel {k = pos 2} (positive-pos 1)
-      (ring2 η (two :* TurnE A B W) (TurnE A B C :+ TurnE A B D) (neg (B .y :- A .y)) (two :* W .x) (C .x :+ D .x)
-      (B .x :- A .x) (two :* W .y) (C .y :+ D .y) hx hy refl
+      (ring2 η (Two :* TurnE A B W) (TurnE A B C :+ TurnE A B D) (neg (B .y :- A .y)) (Two :* W .x) (C .x :+ D .x)
+      (B .x :- A .x) (Two :* W .y) (C .y :+ D .y) hx hy refl
       ∙ ring2 η (TurnE A B C :+ TurnE A B D) O I (TurnE A B C) O I (TurnE A B D) O ek el refl)
 
   half-along : pos 2 *ℤ along i j w ≡ along i j K +ℤ along i j L
   half-along =
-      ring2 η (two :* DotE A W B) (DotE A C B :+ DotE A D B) (B .x :- A .x) (two :* W .x) (C .x :+ D .x)
-      (B .y :- A .y) (two :* W .y) (C .y :+ D .y) hx hy refl
+      ring2 η (Two :* DotE A W B) (DotE A C B :+ DotE A D B) (B .x :- A .x) (Two :* W .x) (C .x :+ D .x)
+      (B .y :- A .y) (Two :* W .y) (C .y :+ D .y) hx hy refl
 
 half-low : (t k l : ℤ) → pos 2 *ℤ t ≡ k +ℤ l → k <ℤ l → k <ℤ t
 half-low t k l e h =
     sub-lt (positive-cancel {k = pos 2} (nonneg-pos 2)
-    (subst Positive (ring1 (t ∷ k ∷ l ∷ []) (v 2 :- v 1) (two :* (v 0 :- v 1)) (neg I) (two :* v 0) (v 1 :+ v 2) e
-    refl)
+    (subst Positive
+    (ring1 (t ∷ k ∷ l ∷ []) (v 2 :- v 1) (Two :* (v 0 :- v 1)) (neg I) (Two :* v 0) (v 1 :+ v 2) e refl)
     (lt-sub h)))
 
 half-high : (t k l : ℤ) → pos 2 *ℤ t ≡ k +ℤ l → k <ℤ l → t <ℤ l
 half-high t k l e h =
     sub-lt (positive-cancel {k = pos 2} (nonneg-pos 2)
-    (subst Positive (ring1 (t ∷ k ∷ l ∷ []) (v 2 :- v 1) (two :* (v 2 :- v 0)) I (two :* v 0) (v 1 :+ v 2) e refl)
+    (subst Positive (ring1 (t ∷ k ∷ l ∷ []) (v 2 :- v 1) (Two :* (v 2 :- v 0)) I (Two :* v 0) (v 1 :+ v 2) e refl)
     (lt-sub h)))
 
 -- ---- the corners on the segment next to z

@@ -5,18 +5,15 @@ use mathlib.Core.Logic.{_⊎_, inl, inr}
 use mathlib.Core.List.{List, [], _∷_}
 use Prim.Native.Nat.{ℕ, _<_}
 use lib.IntN.{ℤ, pos, _+ℤ_, _-ℤ_, _*ℤ_, +ℤ-comm}
-use Rattle.whole.specs.Ring.{E, v, con, _:+_, _:*_, ring}
+use Rattle.whole.specs.Ring.{v, _:+_, _:*_, ring}
 use Rattle.whole.specs.Order.{nonneg-pos, positive-pos, sub-le}
 use Rattle.outline.specs.Drawing.{Simple, corner, corners, after}
 use Rattle.outline.specs.InOrOn.{InOrOn, CentreSees}
-use Rattle.outline.specs.Spell.{O, I, At}
+use Rattle.outline.specs.Spell.{O, I, At, Two}
 use Rattle.outline.specs.Placed.{On}
 use Rattle.outline.specs.Crossing.{Crosses}
 use Rattle.outline.specs.CornersApart.{corners-apart}
 use Rattle.outline.specs.CentreTest.{half, test-enough, test-needed}
-
-abbrev two : E
-two = con (pos 2)
 
 module _ (d : List ℤ) (simple : Simple d) (i j : ℕ) (hi : i < corners d) (hj : j < corners d) (ne : ¬ (i ≡ j)) where
   -- half way from a corner to itself, on the side that begins there
@@ -36,7 +33,7 @@ module _ (d : List ℤ) (simple : Simple d) (i j : ℕ) (hi : i < corners d) (hj
   )
     where
       axis : (a b : ℤ) → pos 2 *ℤ (pos 1 *ℤ a +ℤ pos 0 *ℤ (b -ℤ a)) ≡ pos 1 *ℤ (a +ℤ a)
-      axis a b = ring (a ∷ b ∷ []) (two :* At I (v 0) O (v 1)) (I :* (v 0 :+ v 0)) refl
+      axis a b = ring (a ∷ b ∷ []) (Two :* At I (v 0) O (v 1)) (I :* (v 0 :+ v 0)) refl
 
   -- ---- the middle is enough
   pub middle-enough : ((k : ℕ) → k < corners d → On (corner d k) (corner d i) (corner d j) → (k ≡ i) ⊎ (k ≡ j)) →
@@ -81,4 +78,4 @@ module _ (d : List ℤ) (simple : Simple d) (i j : ℕ) (hi : i < corners d) (hj
         })
       where
         axis : (a b : ℤ) → pos 2 *ℤ (pos 2 *ℤ a +ℤ pos 1 *ℤ (b -ℤ a)) ≡ pos 2 *ℤ (a +ℤ b)
-        axis a b = ring (a ∷ b ∷ []) (two :* At two (v 0) I (v 1)) (two :* (v 0 :+ v 1)) refl
+        axis a b = ring (a ∷ b ∷ []) (Two :* At Two (v 0) I (v 1)) (Two :* (v 0 :+ v 1)) refl

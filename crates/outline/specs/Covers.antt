@@ -89,6 +89,7 @@ module _ (i j z w a b : Point) (n+ : Positive (len2 i j)) (ez : Turn i j z ≡ p
       let za = <ℤ-≤ℤ-trans zl (h .0) in
       on-turn (between i j z b a n+ ez eb ea (<ℤ-le bz) (<ℤ-le za) (<ℤ-≤ℤ-trans bz (<ℤ-le za)))
 
+  -- ---- so where ab does not cross the line, it is inner to ab and ab lies on the line
   pub covers : ¬ Opposite (Turn i j a) (Turn i j b) → (Turn i j a ≡ pos 0 → Free k l (along i j a)) →
       (Turn i j b ≡ pos 0 → Free k l (along i j b)) → On z a b
   covers apart fa fb = go (positive-or (s .q-from)) (positive-or (le-sub (s .q-to)))

@@ -19,7 +19,7 @@ pub record Crosses (I J a b : Point) : Type 0 where
   pub ends : Opposite (Turn I J a) (Turn I J b)
   pub meets : Shared I J a b
 
--- ---- what crosses k times as far out crosses
+-- ---- what crosses in a drawing k times as large crosses
 module _ (k : ℤ) (h : Positive k) where
   turn-smaller : (a b z : Point) → Positive (Turn (out k a) (out k b) (out k z)) → Positive (Turn a b z)
   turn-smaller a b z p =

@@ -1,6 +1,6 @@
 -- The point W that a side ab and a segment IJ share, where a lies strictly right of IJ and b strictly left. In a
--- drawing r times as large it is a pair of whole numbers; it is an inner point of the side; if it is an inner one of
--- IJ too, the side runs through; and the points close to it are points of IJ.
+-- drawing r times as large it is a pair of whole numbers. It is an inner point of the side, so on a simple drawing it
+-- is on no other side and not a corner, and the side runs through.
 --
 --             b
 --      I ----- W ------ J
@@ -14,7 +14,7 @@ use Rattle.whole.specs.Ring.{E, v, _:+_, _:-_, _:*_, neg, ring, ring1, ring2, b
 use Rattle.whole.specs.Order.{Nonneg, Positive, nonneg-pos, nonneg-mul, positive-nonneg, positive-add}
 use Rattle.whole.specs.Order.{positive-mul, positive-cancel, zero-cancel, diff-zero, le-sub, sub-le}
 use Rattle.outline.specs.Drawing.{Point, Shared, Turn}
-use Rattle.outline.specs.Spell.{PointE, A, B, C, D, P, Q, R, O, I, env, TurnE, At, ab-x, ab-y, cd-x, cd-y}
+use Rattle.outline.specs.Spell.{PointE, A, B, C, D, P, Q, R, O, I, env, OutE, TurnE, At, ab-x, ab-y, cd-x, cd-y}
 use Rattle.outline.specs.Placed.{On, Frac, frac-of}
 use Rattle.outline.specs.Parity.{out}
 use Rattle.outline.specs.Scale.{turn-scale}
@@ -25,9 +25,6 @@ use Rattle.outline.specs.EveryPoint.{AtEnd}
 -- I, J, a and b are A to D, the point's places are P, Q and R, and the point is
 abbrev W : PointE
 W = record { x = ab-x; y = ab-y }
-
-abbrev outE : PointE → PointE
-outE z = record { x = R :* z .x; y = R :* z .y }
 
 -- the point's turn from IJ, weighed by its place on the side
 abbrev weighed : E
@@ -67,11 +64,11 @@ module _ (i j a b : Point) (right : Positive (Turn j i a)) (left : Positive (Tur
   crossing = point i j (s .p) (s .r)
 
   pub on-segment : Turn (out (s .r) i) (out (s .r) j) crossing ≡ pos 0
-  on-segment = ring ρ (TurnE (outE A) (outE B) W) O refl
+  on-segment = ring ρ (TurnE (OutE R A) (OutE R B) W) O refl
 
   pub on-side : Turn (out (s .r) a) (out (s .r) b) crossing ≡ pos 0
   on-side =
-      ring2 ρ (TurnE (outE C) (outE D) W) O (neg (R :* (D .y :- C .y))) ab-x cd-x (R :* (D .x :- C .x)) ab-y cd-y
+      ring2 ρ (TurnE (OutE R C) (OutE R D) W) O (neg (R :* (D .y :- C .y))) ab-x cd-x (R :* (D .x :- C .x)) ab-y cd-y
       (s .same-x) (s .same-y) refl
 
   -- ---- inner to IJ too: the side runs through

@@ -1,9 +1,10 @@
 -- Two segments meet where none of the four turns, each point against the other segment, is negative, and one of them
 -- is above zero: the turns are the places of the shared point.
 --
---      a \  / Q      Turn Q P a, Turn P Q b, Turn a b P and Turn b a Q
---         \/
---      P / \ b
+--      b   Q      Turn Q P a, Turn P Q b, Turn a b P and Turn b a Q
+--       \ /
+--       / \
+--      P   a
 use mathlib.Core.Path.{refl}
 use lib.IntN.{ℤ, _+ℤ_}
 use Rattle.whole.specs.Ring.{E, _:+_, _:-_, ring, by-ring}
@@ -18,7 +19,7 @@ pub data OneAbove (n1 n2 n3 n4 : ℤ) : Type 0 where
   third : Positive n3 → OneAbove n1 n2 n3 n4
   fourth : Positive n4 → OneAbove n1 n2 n3 n4
 
--- twice the area of the four points, in one of its forms. P, Q, a and b are A, B, C and D
+-- twice the area of P, a, Q and b, of which the segments are the diagonals. P, Q, a and b are A, B, C and D
 abbrev areaE : E
 areaE = TurnE B A C :+ TurnE A B D
 

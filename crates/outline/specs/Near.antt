@@ -10,7 +10,7 @@ use Rattle.whole.specs.Ring.{E, v, _:+_, _:-_, _:*_, neg, ring, by-ring}
 use Rattle.whole.specs.Order.{Nonneg, Positive, nonneg-pos, nonneg-add, nonneg-mul, positive-nonneg, positive-mul}
 use Rattle.whole.specs.Order.{positive-pred, pred-positive, square-nonneg, le-sub, Sign, plus, nought, minus, sign}
 use Rattle.outline.specs.Drawing.{Point, Shared}
-use Rattle.outline.specs.Spell.{PointE, A, B, C, I}
+use Rattle.outline.specs.Spell.{PointE, A, B, C, I, OutE}
 use Rattle.outline.specs.Placed.{On}
 use Rattle.outline.specs.Along.{len2}
 use Rattle.outline.specs.Parity.{pt, out}
@@ -19,6 +19,9 @@ use Rattle.outline.specs.LineBetween.{off-line, off-lineE, LineBetween, 
 -- one step from W towards Z, in a drawing K times as large
 abbrev pub near : Point → ℤ → Point → Point
 near W K Z = pt (K *ℤ W .x +ℤ (Z .x -ℤ W .x)) (K *ℤ W .y +ℤ (Z .y -ℤ W .y))
+
+abbrev pub NearE : PointE → E → PointE → PointE
+NearE w k z = record { x = k :* w .x :+ (z .x :- w .x); y = k :* w .y :+ (z .y :- w .y) }
 
 -- ---- how large: for g >= 1, K g + s is above zero from K = s s + t t + 1 on, because s s + s is not negative
 reach : ℤ → ℤ → ℤ
@@ -66,12 +69,6 @@ pub record Off (I J W a b : Point) : Type 0 where
 abbrev offE : PointE → PointE → E
 offE e z = off-lineE (v 6) (v 7) e z
 
-abbrev outE : PointE → PointE
-outE z = record { x = v 8 :* z .x; y = v 8 :* z .y }
-
-abbrev nearE : PointE
-nearE = record { x = v 8 :* B .x :+ (C .x :- B .x); y = v 8 :* B .y :+ (C .y :- B .y) }
-
 module _ (W : Point) {a b : Point} (l : LineBetween W a b) where
   abbrev off : Point → ℤ
   off z = off-line (l .u) (l .w) (l .e) z
@@ -81,12 +78,12 @@ module _ (W : Point) {a b : Point} (l : LineBetween W a b) where
 
   step : (K : ℤ) (z : Point) →
       K *ℤ off W +ℤ (off z -ℤ off W) ≡ off-line (l .u) (l .w) (out K (l .e)) (near W K z)
-  step K z = ring (ρ K z) (v 8 :* offE A B :+ (offE A C :- offE A B)) (offE (outE A) nearE) refl
+  step K z = ring (ρ K z) (v 8 :* offE A B :+ (offE A C :- offE A B)) (offE (OutE (v 8) A) (NearE B (v 8) C)) refl
 
   behind : (K : ℤ) (z : Point) → Nonneg K → Nonneg (negℤ (off z)) →
       Nonneg (negℤ (off-line (l .u) (l .w) (out K (l .e)) (out K z)))
   behind K z k h =
-      by-ring (ρ K z) Nonneg (v 8 :* neg (offE A C)) (neg (offE (outE A) (outE C))) refl (nonneg-mul k h)
+      by-ring (ρ K z) Nonneg (v 8 :* neg (offE A C)) (neg (offE (OutE (v 8) A) (OutE (v 8) C))) refl (nonneg-mul k h)
 
   off-line-side : (I J : Point) → Off I J W a b
   off-line-side i j =

@@ -15,16 +15,16 @@ use native.Mathlib.Nat.{le-refl, not-suc-le-zero}
 use native.Mathlib.Decide.{ℕ-discrete}
 use lib.IntN.{ℤ, pos}
 use lib.Signed.{_≤ℤ_, _<ℤ_, ≤ℤ-refl, <ℤ-irrefl}
-use Rattle.whole.specs.Ring.{E, v, _:+_, _:-_, _:*_, neg, ring1}
+use Rattle.whole.specs.Ring.{E, v, _:-_, _:*_, neg, ring1}
 use Rattle.whole.specs.Order.{Positive, positive-pos, positive-mul, ≤ℤ-trans, <ℤ-le, ≤ℤ-total}
 use Rattle.outline.specs.Drawing.{Point, Shared, Turn}
-use Rattle.outline.specs.Spell.{PointE, A, B, C, D, O, I, TurnE}
+use Rattle.outline.specs.Spell.{PointE, A, B, C, D, O, I, OutE, TurnE}
 use Rattle.outline.specs.Odd.{_⊕_}
 use Rattle.outline.specs.Placed.{On, on-turn, touch-meets}
 use Rattle.outline.specs.Along.{len2}
 use Rattle.outline.specs.Parity.{odd, OnSide, InOn, out, large}
 use Rattle.outline.specs.Through.{RunsThrough, parity-flips}
-use Rattle.outline.specs.Near.{near, Off, off-side}
+use Rattle.outline.specs.Near.{near, NearE, Off, off-side}
 use Rattle.outline.specs.Topmost.{last}
 
 -- I, J, a and b are A to D, W is 8 and 9, K is 10
@@ -33,12 +33,6 @@ W = record { x = v 8; y = v 9 }
 
 abbrev K : E
 K = v 10
-
-abbrev outE : PointE → PointE
-outE z = record { x = K :* z .x; y = K :* z .y }
-
-abbrev nearE : PointE → PointE
-nearE z = record { x = K :* W .x :+ (z .x :- W .x); y = K :* W .y :+ (z .y :- W .y) }
 
 -- ---- a side that runs through IJ at W runs through close to W too
 module _ (i j a b w : Point) (on-ij : Turn i j w ≡ pos 0) (on-ab : Turn a b w ≡ pos 0) (t : RunsThrough i j a b) where
@@ -50,16 +44,18 @@ module _ (i j a b w : Point) (on-ij : Turn i j w ≡ pos 0) (on-ab : Turn a b w 
   near-through k k+ =
       record {
         t1 =
-            subst Positive (ring1 (ρ k) (K :* TurnE B A C) (TurnE (nearE B) (nearE A) (outE C)) (neg (K :- I))
+            subst Positive (ring1 (ρ k) (K :* TurnE B A C) (TurnE (NearE W K B) (NearE W K A) (OutE K C))
+            (neg (K :- I))
             (TurnE A B W) O on-ij refl) (positive-mul k+ (t .t1));
         t2 =
-            subst Positive (ring1 (ρ k) (K :* TurnE A B D) (TurnE (nearE A) (nearE B) (outE D)) (K :- I)
+            subst Positive (ring1 (ρ k) (K :* TurnE A B D) (TurnE (NearE W K A) (NearE W K B) (OutE K D)) (K :- I)
             (TurnE A B W) O on-ij refl) (positive-mul k+ (t .t2));
         t3 =
-            subst Positive (ring1 (ρ k) (K :* TurnE C D A) (TurnE (outE C) (outE D) (nearE A)) (neg (K :* (K :- I)))
+            subst Positive (ring1 (ρ k) (K :* TurnE C D A) (TurnE (OutE K C) (OutE K D) (NearE W K A))
+            (neg (K :* (K :- I)))
             (TurnE C D W) O on-ab refl) (positive-mul k+ (t .t3));
         t4 =
-            subst Positive (ring1 (ρ k) (K :* TurnE D C B) (TurnE (outE D) (outE C) (nearE B)) (K :* (K :- I))
+            subst Positive (ring1 (ρ k) (K :* TurnE D C B) (TurnE (OutE K D) (OutE K C) (NearE W K B)) (K :* (K :- I))
             (TurnE C D W) O on-ab refl) (positive-mul k+ (t .t4));
       }
 

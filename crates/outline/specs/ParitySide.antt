@@ -50,8 +50,8 @@ module _ (P Q a b : Point) (apart : ¬ Shared P Q a b) where
           let w = low-high (balanced-back P Q a b) i j k h3 (positive-nonneg h4) in
           apart (meets-back P Q a b (w .0) (w .1) h3 (positive-nonneg h4) (fourth h4))
 
-  same-mid-mid : P .y <ℤ a .y → a .y ≤ℤ Q .y → P .y <ℤ b .y → b .y ≤ℤ Q .y → is-above (Turn Q P a) ≡ is-above
-      (Turn Q P b)
+  same-mid-mid : P .y <ℤ a .y → a .y ≤ℤ Q .y → P .y <ℤ b .y → b .y ≤ℤ Q .y →
+      is-above (Turn Q P a) ≡ is-above (Turn Q P b)
   same-mid-mid i j k l = same-above (turn-back Q P a) (turn-back Q P b) f g
     where
       f : Positive (Turn Q P a) → ¬ Nonneg (Turn P Q b)
@@ -108,8 +108,8 @@ module _ (P Q a b : Point) (pq : P .y ≤ℤ Q .y) (apart : ¬ Shared P Q a b) w
   apart-back s = apart (turned-second s)
 
   by-place : {pa qa pb qb : Bool} → Place (P .y) (Q .y) (a .y) pa qa → Place (P .y) (Q .y) (b .y) pb qb →
-      passes pa pb (is-above (Turn a b P)) (is-above (Turn b a P)) ⊕ passes qa qb (is-above (Turn a b Q))
-      (is-above (Turn b a Q))
+      passes pa pb (is-above (Turn a b P)) (is-above (Turn b a P))
+      ⊕ passes qa qb (is-above (Turn a b Q)) (is-above (Turn b a Q))
       ≡ inside pa qa (is-above (Turn Q P a)) ⊕ inside pb qb (is-above (Turn Q P b))
   by-place (low i) (low j) = refl
   by-place (low i) (mid j k) = ⊕-no (is-above (Turn a b P)) ∙ same-low-mid P Q a b apart i j k

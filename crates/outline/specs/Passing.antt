@@ -13,7 +13,7 @@ use Rattle.outline.specs.Drawing.{Point, Turn}
 use Rattle.outline.specs.InOrOn.{Spot, Higher, OneEndHigher, PassesRight}
 use Rattle.outline.specs.Tells.{Tells, as-well, never}
 use Rattle.outline.specs.Tests.{lt-tells}
-use Rattle.outline.specs.Spell.{PointE, A, B, C, P, Q, R, I, env, TurnE, At}
+use Rattle.outline.specs.Spell.{A, B, C, P, Q, R, I, env, OutE, TurnE, At}
 
 -- ---- the test
 -- is the end a higher than e; is e strictly left of the line from a to b
@@ -42,11 +42,8 @@ abbrev pub grown : Spot → Point → Point
 grown z a = record { x = z .r *ℤ a .x; y = z .r *ℤ a .y }
 
 -- ---- the test equals 01's sentence. A, B and C spell a, b and the point
-abbrev growE : PointE → PointE
-growE a = record { x = R :* a .x; y = R :* a .y }
-
 abbrev turnE : E
-turnE = TurnE (growE A) (growE B) C
+turnE = TurnE (OutE R A) (OutE R B) C
 
 -- how far the side rises, and the point above its start
 abbrev riseE : E

@@ -1,5 +1,5 @@
--- A drawing k times as large: turns grow by the square of k, and what a point's place on a side, the sides to its
--- right and the crossings of segments say stays as it is.
+-- A drawing k times as large: turns grow by the square of k, and whether a point is on a side, which sides are
+-- to its right, and so whether it is in or on stays as it is.
 use mathlib.Core.Path.{_≡_, refl, sym, _∙_, ap}
 use mathlib.Core.Logic.{inl, inr}
 use mathlib.Core.List.{[], _∷_}
@@ -9,7 +9,7 @@ use Rattle.whole.specs.Ring.{v, _:-_, _:*_, ring, ring1, by-ring}
 use Rattle.whole.specs.Order.{Positive, positive-nonneg, positive-mul, le-cancel, zero-cancel}
 use Rattle.whole.specs.Order.{diff-zero, *ℤ-mono}
 use Rattle.outline.specs.Drawing.{Point, Turn}
-use Rattle.outline.specs.Spell.{PointE, A, B, C, R, O, I, env, TurnE, DotE}
+use Rattle.outline.specs.Spell.{A, B, C, R, O, I, env, OutE, TurnE, DotE}
 use Rattle.outline.specs.Segments.{point-eq}
 use Rattle.outline.specs.Passing.{crosses}
 use Rattle.outline.specs.Odd.{_⊕_}
@@ -18,13 +18,10 @@ use Rattle.outline.specs.Along.{len2}
 use Rattle.outline.specs.Signs.{is-above, above-scale, lt-scale}
 use Rattle.outline.specs.Parity.{odd, InOn, out, large}
 
--- the scale is R, a point k times as far out is spelled so
-abbrev outE : PointE → PointE
-outE a = record { x = R :* a .x; y = R :* a .y }
-
+-- the scale is R
 pub turn-scale : (k : ℤ) (a b z : Point) → Turn (out k a) (out k b) (out k z) ≡ k *ℤ (k *ℤ Turn a b z)
 turn-scale k a b z =
-    ring (env a b z z (pos 0) (pos 0) k) (TurnE (outE A) (outE B) (outE C)) (R :* (R :* TurnE A B C)) refl
+    ring (env a b z z (pos 0) (pos 0) k) (TurnE (OutE R A) (OutE R B) (OutE R C)) (R :* (R :* TurnE A B C)) refl
 
 -- ---- points that differ, and lengths
 pub apart-scale : (k : ℤ) (a b : Point) → Positive k → ¬ (a ≡ b) → ¬ (out k a ≡ out k b)
@@ -38,12 +35,13 @@ apart-scale k a b h ne e =
 
 pub len-scale : (k : ℤ) (a b : Point) → Positive k → Positive (len2 a b) → Positive (len2 (out k a) (out k b))
 len-scale k a b h n+ =
-    by-ring (env a b a b (pos 0) (pos 0) k) Positive (R :* R :* DotE A B B) (DotE (outE A) (outE B) (outE B)) refl
+    by-ring (env a b a b (pos 0) (pos 0) k) Positive (R :* R :* DotE A B B) (DotE (OutE R A) (OutE R B) (OutE R B))
+    refl
     (positive-mul (positive-mul h h) n+)
 
 -- ---- the sides to the right
-left-scale : (k : ℤ) (a b z : Point) → Positive k → is-above (Turn (out k a) (out k b) (out k z)) ≡ is-above
-    (Turn a b z)
+left-scale : (k : ℤ) (a b z : Point) → Positive k →
+    is-above (Turn (out k a) (out k b) (out k z)) ≡ is-above (Turn a b z)
 left-scale k a b z h =
     ap is-above (turn-scale k a b z) ∙ above-scale k (k *ℤ Turn a b z) h ∙ above-scale k (Turn a b z) h
 

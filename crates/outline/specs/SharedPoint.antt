@@ -46,10 +46,8 @@ module _ (i j : Point) (p r : ℤ) (r+ : Positive r) (p0 : Nonneg p) (p1 : p ≤
 
   pub beside-i : (k : ℤ) → Positive k → On (near (point i j p r) k (out r i)) (out (k *ℤ r) i) (out (k *ℤ r) j)
   beside-i k k+ =
-      on-ij k ((k -ℤ pos 1) *ℤ p) (near (point i j p r) k (out r i)) k+
-      (nonneg-mul (positive-pred k+) p0)
-      (sub-le (by-ring (k ∷ p ∷ r ∷ []) Nonneg (v 0 :* (v 2 :- v 1) :+ v 1) (v 0 :* v 2 :- (v 0 :- I) :* v 1)
-      refl
+      on-ij k ((k -ℤ pos 1) *ℤ p) (near (point i j p r) k (out r i)) k+ (nonneg-mul (positive-pred k+) p0)
+      (sub-le (by-ring (k ∷ p ∷ r ∷ []) Nonneg (v 0 :* (v 2 :- v 1) :+ v 1) (v 0 :* v 2 :- (v 0 :- I) :* v 1) refl
       (nonneg-add (nonneg-mul (positive-nonneg k+) (le-sub p1)) p0)))
       (axis (i .x) (j .x)) (axis (i .y) (j .y))
     where
@@ -64,8 +62,7 @@ module _ (i j : Point) (p r : ℤ) (r+ : Positive r) (p0 : Nonneg p) (p1 : p ≤
       on-ij k ((k -ℤ pos 1) *ℤ p +ℤ r) (near (point i j p r) k (out r j)) k+
       (nonneg-add (nonneg-mul (positive-pred k+) p0) (positive-nonneg r+))
       (sub-le (by-ring (k ∷ p ∷ r ∷ []) Nonneg ((v 0 :- I) :* (v 2 :- v 1))
-      (v 0 :* v 2 :- ((v 0 :- I) :* v 1 :+ v 2))
-      refl (nonneg-mul (positive-pred k+) (le-sub p1))))
+      (v 0 :* v 2 :- ((v 0 :- I) :* v 1 :+ v 2)) refl (nonneg-mul (positive-pred k+) (le-sub p1))))
       (axis (i .x) (j .x)) (axis (i .y) (j .y))
     where
       axis : (e f : ℤ) → k *ℤ (r *ℤ e +ℤ p *ℤ (f -ℤ e)) +ℤ (r *ℤ f -ℤ (r *ℤ e +ℤ p *ℤ (f -ℤ e)))

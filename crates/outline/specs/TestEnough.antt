@@ -6,9 +6,10 @@ use mathlib.Core.Logic.{inl, inr}
 use mathlib.Core.List.{[], _∷_}
 use Prim.Native.Nat.{ℕ, suc, _<_}
 use lib.IntN.{ℤ, pos, _+ℤ_, _*ℤ_}
-use Rattle.whole.specs.Ring.{E, v, con, _:+_, _:*_, ring}
+use Rattle.whole.specs.Ring.{v, _:+_, _:*_, ring}
 use Rattle.whole.specs.Order.{Positive, positive-pos}
 use Rattle.outline.specs.Drawing.{Point}
+use Rattle.outline.specs.Spell.{Two}
 use Rattle.outline.specs.Tells.{Decide}
 use Rattle.outline.specs.Placed.{On}
 use Rattle.outline.specs.Along.{len2}
@@ -22,19 +23,16 @@ use Rattle.outline.specs.EveryPoint.{Sight, Test, sum2}
 two+ : Positive (pos 2)
 two+ = positive-pos 1
 
-abbrev two : E
-two = con (pos 2)
-
 -- twice, r times as large
 abbrev twice : ℤ → Point → Point
 twice r a = out (pos 2) (out r a)
 
 swap : (r a : ℤ) → r *ℤ (pos 2 *ℤ a) ≡ pos 2 *ℤ (r *ℤ a)
-swap r a = ring (r ∷ a ∷ []) (v 0 :* (two :* v 1)) (two :* (v 0 :* v 1)) refl
+swap r a = ring (r ∷ a ∷ []) (v 0 :* (Two :* v 1)) (Two :* (v 0 :* v 1)) refl
 
 half : (r a b : ℤ) → pos 2 *ℤ (r *ℤ (a +ℤ b)) ≡ pos 2 *ℤ (r *ℤ a) +ℤ pos 2 *ℤ (r *ℤ b)
 half r a b =
-    ring (r ∷ a ∷ b ∷ []) (two :* (v 0 :* (v 1 :+ v 2))) (two :* (v 0 :* v 1) :+ two :* (v 0 :* v 2)) refl
+    ring (r ∷ a ∷ b ∷ []) (Two :* (v 0 :* (v 1 :+ v 2))) (Two :* (v 0 :* v 1) :+ Two :* (v 0 :* v 2)) refl
 
 module _ (c : ℕ → Point) (n : ℕ) (closed : c n ≡ c 0) (i j : ℕ) (i< : i < n) (j< : j < n)
     (n+ : Positive (len2 (c i) (c j))) where

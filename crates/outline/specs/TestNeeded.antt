@@ -8,9 +8,10 @@ use native.Mathlib.Decide.{ℕ-discrete}
 use lib.IntN.{ℤ, pos, _+ℤ_, _-ℤ_, _*ℤ_}
 use lib.Signed.{<ℤ-irrefl}
 use Rattle.whole.specs.Laws.{*ℤ-assoc}
-use Rattle.whole.specs.Ring.{E, v, con, _:+_, _:-_, _:*_, ring2, by-ring}
+use Rattle.whole.specs.Ring.{v, _:+_, _:-_, _:*_, ring2, by-ring}
 use Rattle.whole.specs.Order.{Nonneg, Positive, positive-pos, nonneg-add, positive-mul, positive-or, le-sub, sub-le}
 use Rattle.outline.specs.Drawing.{Point, Shared, Turn}
+use Rattle.outline.specs.Spell.{Two}
 use Rattle.outline.specs.Segments.{turned-first, turn-back, turn-start, turn-end}
 use Rattle.outline.specs.Placed.{On, on-of, on-turn}
 use Rattle.outline.specs.Along.{len2, along, along-low, along-high, on-x, on-y}
@@ -37,7 +38,8 @@ module _ (c : ℕ → Point) (n : ℕ) (closed : c n ≡ c 0) (simple : Simple c
       where
         at : ¬ Dec (m ≡ i)
         at (yes f) =
-            <ℤ-irrefl (subst Positive (turn-end (c j) (c i)) (subst (λ k. Positive (Turn (c j) (c i) (c k))) f right))
+            <ℤ-irrefl
+            (subst Positive (turn-end (c j) (c i)) (subst (λ k. Positive (Turn (c j) (c i) (c k))) f right))
         at (no f) = not-first (c i) (c j) (c m) (c (suc m)) right left s (c (suc i)) (simple .apart m i m< i< f) e
 
     not-j : ¬ (s .r -ℤ s .p ≡ pos 0)
@@ -45,8 +47,8 @@ module _ (c : ℕ → Point) (n : ℕ) (closed : c n ≡ c 0) (simple : Simple c
       where
         at : ¬ Dec (m ≡ j)
         at (yes f) =
-            <ℤ-irrefl (subst Positive (turn-start (c j) (c i)) (subst (λ k. Positive (Turn (c j) (c i) (c k))) f
-            right))
+            <ℤ-irrefl
+            (subst Positive (turn-start (c j) (c i)) (subst (λ k. Positive (Turn (c j) (c i) (c k))) f right))
         at (no f) = not-last (c i) (c j) (c m) (c (suc m)) right left s (c (suc j)) (simple .apart m j m< j< f) e
 
     -- and no other side holds it
@@ -98,14 +100,11 @@ module _ (c : ℕ → Point) (n : ℕ) (closed : c n ≡ c 0) (simple : Simple c
           crossing-out i j i< j< sight m m< (subst Positive (turn-back (c i) (c j) (c m)) (h .0)) (h .1) (x .meets)
 
   -- ---- half way between two points of the segment is one. N k l i j s t are 0 to 6
-  abbrev two : E
-  two = con (pos 2)
-
   axis : (N k l i j s t : ℤ) → N *ℤ (k -ℤ i) ≡ s *ℤ (j -ℤ i) → N *ℤ (l -ℤ i) ≡ t *ℤ (j -ℤ i) →
       pos 2 *ℤ N *ℤ (k +ℤ l -ℤ pos 2 *ℤ i) ≡ (s +ℤ t) *ℤ (pos 2 *ℤ j -ℤ pos 2 *ℤ i)
   axis N k l i j s t e f =
-      ring2 (N ∷ k ∷ l ∷ i ∷ j ∷ s ∷ t ∷ []) (two :* v 0 :* (v 1 :+ v 2 :- two :* v 3))
-      ((v 5 :+ v 6) :* (two :* v 4 :- two :* v 3)) two (v 0 :* (v 1 :- v 3)) (v 5 :* (v 4 :- v 3)) two
+      ring2 (N ∷ k ∷ l ∷ i ∷ j ∷ s ∷ t ∷ []) (Two :* v 0 :* (v 1 :+ v 2 :- Two :* v 3))
+      ((v 5 :+ v 6) :* (Two :* v 4 :- Two :* v 3)) Two (v 0 :* (v 1 :- v 3)) (v 5 :* (v 4 :- v 3)) Two
       (v 0 :* (v 2 :- v 3)) (v 6 :* (v 4 :- v 3)) e f refl
 
   half-on : (a b p q : Point) → Positive (len2 a b) → On p a b → On q a b →
@@ -119,8 +118,8 @@ module _ (c : ℕ → Point) (n : ℕ) (closed : c n ≡ c 0) (simple : Simple c
         k+ = positive-mul {x = pos 2} (positive-pos 1) n+;
         m0 = nonneg-add (along-low p a b op) (along-low q a b oq);
         m1 =
-            sub-le (by-ring (s ∷ t ∷ len2 a b ∷ []) Nonneg (v 2 :- v 0 :+ (v 2 :- v 1)) (two :* v 2 :- (v 0 :+ v 1))
-            refl
+            sub-le (by-ring (s ∷ t ∷ len2 a b ∷ []) Nonneg
+            (v 2 :- v 0 :+ (v 2 :- v 1)) (Two :* v 2 :- (v 0 :+ v 1)) refl
             (nonneg-add (le-sub (along-high p a b op)) (le-sub (along-high q a b oq))));
         fx = axis (len2 a b) (p .x) (q .x) (a .x) (b .x) s t (on-x a b p (op .line)) (on-x a b q (oq .line));
         fy = axis (len2 a b) (p .y) (q .y) (a .y) (b .y) s t (on-y a b p (op .line)) (on-y a b q (oq .line));

@@ -2,9 +2,10 @@
 -- breaks the rule of `ParitySide`, so if PQ meets no other side, just one of P and Q has an odd number of sides to its
 -- right.
 --
---      a \  / Q
---         \/
---      P / \ b
+--      b   Q
+--       \ /
+--       / \
+--      P   a
 use mathlib.Core.Path.{_≡_, refl, sym, _∙_, ap, subst}
 use mathlib.Core.Bool.{Bool, true, false, not}
 use mathlib.Core.Logic.{_⊎_, inl, inr}
