@@ -12,17 +12,25 @@ use lib.IntN.{ℤ, pos, negsuc, negℤ, _+ℤ_, _-ℤ_, _*ℤ_}
 use lib.Signed.{_≤ℤ_, _<ℤ_, ≤ℤ-refl, <ℤ-irrefl, clashℤ, <ℤ-≤ℤ-trans}
 use Rattle.whole.specs.Laws.{*ℤ-assoc}
 use Rattle.whole.specs.Ring.{E, v, con, _:+_, _:-_, _:*_, neg, eval, norm, ring, ring1, ring2, by-ring}
-use Rattle.whole.specs.Order.{Nonneg, Positive, nonneg-pos, positive-pos, nonneg-add, nonneg-mul, positive-nonneg, positive-add, positive-mul, positive-pred, positive-not, nonneg-cancel, zero-cancel, le-sub, sub-le, lt-sub, sub-lt, ≤ℤ-trans, <ℤ-le, ≤ℤ-total, Sign, plus, nought, minus, sign}
-use Rattle.outline.specs.Drawing.{Point, Shared}
-use Rattle.outline.specs.Placed.{X, On, Btw, Frac, on-of, frac-of, on-turn, touch-meets, flip, turned}
+use Rattle.whole.specs.Order.{Nonneg, Positive, nonneg-pos, positive-pos, nonneg-add, nonneg-mul, positive-nonneg, positive-add, positive-mul, positive-pred, positive-not, nonneg-cancel, zero-cancel, le-sub, sub-le, lt-sub, sub-lt, ≤ℤ-trans, <ℤ-le, ≤ℤ-total, Sign, plus, nought, minus, sign, positive-cancel, ≤ℤ-<ℤ-trans}
+use Rattle.outline.specs.Drawing.{Point, Shared, Turn}
+use Rattle.outline.specs.Placed.{On, Btw, Frac, on-of, frac-of, on-turn, touch-meets}
+use Rattle.outline.specs.Segments.{exchanged, turned-second}
+use Rattle.outline.specs.Odd.{_⊕_}
+use Rattle.outline.specs.Parity.{pt, odd, OnSide, InOn, out, large, Holds}
+use Rattle.outline.specs.Passing.{higher, passes, crosses}
+use Rattle.outline.specs.Signs.{is-above, above-yes, above-no, neg-nonneg, above-scale, lt-above}
+use Rattle.outline.specs.Xor.{⊕-no, ⊕-same, ⊕-swap, ⊕-chain, ⊕-zero}
+use Rattle.outline.specs.Scale.{in-back, in-scale}
+use Rattle.outline.specs.Tells.{Decide}
+use Rattle.outline.specs.OnTest.{on-side-dec}
+use Rattle.outline.specs.EveryPoint.{Sight}
 use lib.Dec.{T}
 use lib.Signed.{ltZ, ltZ-yes, ltZ-no}
-use Rattle.outline.specs.Parity.{_⊕_, pt, turn, higher, passes, crosses, odd, OnSide, InOn, out, large, Holds}
-use Rattle.outline.specs.ParitySide.{ps-right, Ltr, yes-of, no-of, nn-of-le, le-lt, ⊕-no, ⊕-same}
-use Rattle.outline.specs.ParityRound.{⊕-swap, ⊕-chain, ⊕-zero, Ltr-scale, ltZ-sub, in-back, in-scale}
-use Rattle.outline.specs.Between.{Decide, on-side-dec}
-use Rattle.outline.specs.Through.{px}
-use Rattle.outline.specs.EveryPoint.{Sight}
+
+-- a turn, spelled by the coordinates of its three points
+abbrev px : E → E → E → E → E → E → E
+px sx sy tx ty zx zy = (tx :- sx) :* (zy :- sy) :- (ty :- sy) :* (zx :- sx)
 
 abbrev one : E
 one = con (pos 1)
@@ -51,13 +59,13 @@ fourth true x = false
 fourth false x = x
 
 -- z on ab, by the axis x
-on-by-x : (z a b : Point) → a .x ≤ℤ z .x → z .x <ℤ b .x → turn a b z ≡ pos 0 → On z a b
+on-by-x : (z a b : Point) → a .x ≤ℤ z .x → z .x <ℤ b .x → Turn a b z ≡ pos 0 → On z a b
 on-by-x z a b h k e =
     let ρ = z .x ∷ z .y ∷ a .x ∷ a .y ∷ b .x ∷ b .y ∷ [] in
     on-of (record {
       m = z .x -ℤ a .x;
       k = b .x -ℤ a .x;
-      k+ = lt-sub (le-lt h k);
+      k+ = lt-sub (≤ℤ-<ℤ-trans h k);
       m0 = le-sub h;
       m1 = sub-le (by-ring ρ Nonneg (v 4 :- v 0) (v 4 :- v 2 :- (v 0 :- v 2)) refl (positive-nonneg (lt-sub k)));
       fx = ring ρ ((v 4 :- v 2) :* (v 0 :- v 2)) ((v 0 :- v 2) :* (v 4 :- v 2)) refl;
@@ -87,23 +95,23 @@ module _ (z a b : Point) (off : On z a b → ⊥) where
   D = px (v 4) (v 5) (v 2) (v 3) (v 0) (v 1)
 
   abbrev u : Bool
-  u = Ltr (turn a b z)
+  u = is-above (Turn a b z)
 
   abbrev w : Bool
-  w = Ltr (turn b a z)
+  w = is-above (Turn b a z)
 
   -- differences from z: A and B, positive (gt) or not (le)
   below : {p y : ℤ} → y ≤ℤ p → Nonneg (negℤ (y -ℤ p))
   below {p} {y} h = by-ring (p ∷ y ∷ []) Nonneg (v 0 :- v 1) (neg (v 1 :- v 0)) refl (le-sub h)
 
   -- turn a b z is not nought
-  some-turn : (turn a b z ≡ pos 0 → ⊥) → w ⊕ u ≡ true
-  some-turn ne = go (sign (turn a b z))
+  some-turn : (Turn a b z ≡ pos 0 → ⊥) → w ⊕ u ≡ true
+  some-turn ne = go (sign (Turn a b z))
     where
-      go : Sign (turn a b z) → w ⊕ u ≡ true
-      go (plus h) = ap (λ t. t ⊕ u) (no-of (turn b a z) (by-ring ρ Nonneg U (neg D) refl (positive-nonneg h))) ∙ yes-of h
+      go : Sign (Turn a b z) → w ⊕ u ≡ true
+      go (plus h) = ap (λ t. t ⊕ u) (above-no (Turn b a z) (by-ring ρ Nonneg U (neg D) refl (positive-nonneg h))) ∙ above-yes h
       go (nought e) = absurd (ne e)
-      go (minus h) = ap (λ t. t ⊕ u) (yes-of (by-ring ρ Positive (neg U) D refl h)) ∙ ap not (no-of (turn a b z) (positive-nonneg h))
+      go (minus h) = ap (λ t. t ⊕ u) (above-yes (by-ring ρ Positive (neg U) D refl h)) ∙ ap not (above-no (Turn a b z) (positive-nonneg h))
 
   ⊕-turn : (s t : Bool) → s ⊕ t ≡ t ⊕ s
   ⊕-turn true true = refl
@@ -111,33 +119,33 @@ module _ (z a b : Point) (off : On z a b → ⊥) where
   ⊕-turn false true = refl
   ⊕-turn false false = refl
 
-  pos-of : (t : ℤ) → Nonneg t → (t ≡ pos 0 → ⊥) → Ltr t ≡ true
+  pos-of : (t : ℤ) → Nonneg t → (t ≡ pos 0 → ⊥) → is-above t ≡ true
   pos-of t h ne = go (sign t)
     where
-      go : Sign t → Ltr t ≡ true
-      go (plus p) = yes-of p
+      go : Sign t → is-above t ≡ true
+      go (plus p) = above-yes p
       go (nought e) = absurd (ne e)
       go (minus p) = absurd (positive-not p (by-ring (t ∷ []) Nonneg (v 0) (neg (neg (v 0))) refl h))
 
-  turn-flip : turn b a z ≡ pos 0 → turn a b z ≡ pos 0
+  turn-flip : Turn b a z ≡ pos 0 → Turn a b z ≡ pos 0
   turn-flip e = ring1 ρ U nil (neg one) D nil e refl
 
   by-quad : {ya xa yb xb : Bool} → Cmp (z .y) (a .y) ya → Cmp (z .x) (a .x) xa → Cmp (z .y) (b .y) yb → Cmp (z .x) (b .x) xb → passes ya yb u w ⊕ passes xa xb u w ≡ fourth ya xa ⊕ fourth yb xb
   by-quad (gt ay) (gt ax) (gt by) (gt bx) = refl
-  by-quad (gt ay) (gt ax) (gt by) (le bx) = no-of (turn b a z) (by-ring ρ Nonneg (Ax :* By :+ Ay :* neg Bx) (neg D) refl (nonneg-add (nonneg-mul (positive-nonneg (lt-sub ax)) (positive-nonneg (lt-sub by))) (nonneg-mul (positive-nonneg (lt-sub ay)) (below bx))))
-  by-quad (gt ay) (gt ax) (le by) (gt bx) = ⊕-no w ∙ yes-of (by-ring ρ Positive (Bx :* Ay :+ neg By :* Ax) D refl (positive-add (positive-mul (lt-sub bx) (lt-sub ay)) (nonneg-mul (below by) (positive-nonneg (lt-sub ax)))))
+  by-quad (gt ay) (gt ax) (gt by) (le bx) = above-no (Turn b a z) (by-ring ρ Nonneg (Ax :* By :+ Ay :* neg Bx) (neg D) refl (nonneg-add (nonneg-mul (positive-nonneg (lt-sub ax)) (positive-nonneg (lt-sub by))) (nonneg-mul (positive-nonneg (lt-sub ay)) (below bx))))
+  by-quad (gt ay) (gt ax) (le by) (gt bx) = ⊕-no w ∙ above-yes (by-ring ρ Positive (Bx :* Ay :+ neg By :* Ax) D refl (positive-add (positive-mul (lt-sub bx) (lt-sub ay)) (nonneg-mul (below by) (positive-nonneg (lt-sub ax)))))
   by-quad (gt ay) (gt ax) (le by) (le bx) = ⊕-same w
-  by-quad (gt ay) (le ax) (gt by) (gt bx) = no-of (turn a b z) (by-ring ρ Nonneg (neg Ax :* By :+ Ay :* Bx) (neg U) refl (nonneg-add (nonneg-mul (below ax) (positive-nonneg (lt-sub by))) (nonneg-mul (positive-nonneg (lt-sub ay)) (positive-nonneg (lt-sub bx)))))
+  by-quad (gt ay) (le ax) (gt by) (gt bx) = above-no (Turn a b z) (by-ring ρ Nonneg (neg Ax :* By :+ Ay :* Bx) (neg U) refl (nonneg-add (nonneg-mul (below ax) (positive-nonneg (lt-sub by))) (nonneg-mul (positive-nonneg (lt-sub ay)) (positive-nonneg (lt-sub bx)))))
   by-quad (gt ay) (le ax) (gt by) (le bx) = refl
   by-quad (gt ay) (le ax) (le by) (gt bx) = some-turn (λ e. off (on-by-x z a b ax bx e))
-  by-quad (gt ay) (le ax) (le by) (le bx) = ⊕-no w ∙ no-of (turn b a z) (by-ring ρ Nonneg (neg Bx :* Ay :+ neg By :* neg Ax) (neg D) refl (nonneg-add (nonneg-mul (below bx) (positive-nonneg (lt-sub ay))) (nonneg-mul (below by) (below ax))))
-  by-quad (le ay) (gt ax) (gt by) (gt bx) = ⊕-no u ∙ yes-of (by-ring ρ Positive (Ax :* By :+ neg Ay :* Bx) U refl (positive-add (positive-mul (lt-sub ax) (lt-sub by)) (nonneg-mul (below ay) (positive-nonneg (lt-sub bx)))))
+  by-quad (gt ay) (le ax) (le by) (le bx) = ⊕-no w ∙ above-no (Turn b a z) (by-ring ρ Nonneg (neg Bx :* Ay :+ neg By :* neg Ax) (neg D) refl (nonneg-add (nonneg-mul (below bx) (positive-nonneg (lt-sub ay))) (nonneg-mul (below by) (below ax))))
+  by-quad (le ay) (gt ax) (gt by) (gt bx) = ⊕-no u ∙ above-yes (by-ring ρ Positive (Ax :* By :+ neg Ay :* Bx) U refl (positive-add (positive-mul (lt-sub ax) (lt-sub by)) (nonneg-mul (below ay) (positive-nonneg (lt-sub bx)))))
   by-quad (le ay) (gt ax) (gt by) (le bx) = ⊕-turn u w ∙ some-turn (λ e. off (on-turn (on-by-x z b a bx ax (ring1 ρ D nil (neg one) U nil e refl))))
   by-quad (le ay) (gt ax) (le by) (gt bx) = refl
-  by-quad (le ay) (gt ax) (le by) (le bx) = pos-of (turn b a z) (by-ring ρ Nonneg (neg Bx :* neg Ay :+ neg By :* Ax) D refl (nonneg-add (nonneg-mul (below bx) (below ay)) (nonneg-mul (below by) (positive-nonneg (lt-sub ax))))) (λ e. off (on-turn (on-by-x z b a bx ax e)))
+  by-quad (le ay) (gt ax) (le by) (le bx) = pos-of (Turn b a z) (by-ring ρ Nonneg (neg Bx :* neg Ay :+ neg By :* Ax) D refl (nonneg-add (nonneg-mul (below bx) (below ay)) (nonneg-mul (below by) (positive-nonneg (lt-sub ax))))) (λ e. off (on-turn (on-by-x z b a bx ax e)))
   by-quad (le ay) (le ax) (gt by) (gt bx) = ⊕-same u
-  by-quad (le ay) (le ax) (gt by) (le bx) = ⊕-no u ∙ no-of (turn a b z) (by-ring ρ Nonneg (neg Ax :* By :+ neg Ay :* neg Bx) (neg U) refl (nonneg-add (nonneg-mul (below ax) (positive-nonneg (lt-sub by))) (nonneg-mul (below ay) (below bx))))
-  by-quad (le ay) (le ax) (le by) (gt bx) = pos-of (turn a b z) (by-ring ρ Nonneg (neg Ax :* neg By :+ neg Ay :* Bx) U refl (nonneg-add (nonneg-mul (below ax) (below by)) (nonneg-mul (below ay) (positive-nonneg (lt-sub bx))))) (λ e. off (on-by-x z a b ax bx e))
+  by-quad (le ay) (le ax) (gt by) (le bx) = ⊕-no u ∙ above-no (Turn a b z) (by-ring ρ Nonneg (neg Ax :* By :+ neg Ay :* neg Bx) (neg U) refl (nonneg-add (nonneg-mul (below ax) (positive-nonneg (lt-sub by))) (nonneg-mul (below ay) (below bx))))
+  by-quad (le ay) (le ax) (le by) (gt bx) = pos-of (Turn a b z) (by-ring ρ Nonneg (neg Ax :* neg By :+ neg Ay :* Bx) U refl (nonneg-add (nonneg-mul (below ax) (below by)) (nonneg-mul (below ay) (positive-nonneg (lt-sub bx))))) (λ e. off (on-by-x z a b ax bx e))
   by-quad (le ay) (le ax) (le by) (le bx) = refl
 
   abbrev wedge : Point → Bool
@@ -145,8 +153,8 @@ module _ (z a b : Point) (off : On z a b → ⊥) where
 
   side-turned : crosses z a b ⊕ crosses (quarter z) (quarter a) (quarter b) ≡ wedge a ⊕ wedge b
   side-turned =
-      ap (λ t. crosses z a b ⊕ passes (ltZ (z .x) (a .x)) (ltZ (z .x) (b .x)) (Ltr t) (Ltr (turn (quarter b) (quarter a) (quarter z)))) (ring ρ (px (neg (v 3)) (v 2) (neg (v 5)) (v 4) (neg (v 1)) (v 0)) U refl)
-      ∙ ap (λ t. crosses z a b ⊕ passes (ltZ (z .x) (a .x)) (ltZ (z .x) (b .x)) u (Ltr t)) (ring ρ (px (neg (v 5)) (v 4) (neg (v 3)) (v 2) (neg (v 1)) (v 0)) D refl)
+      ap (λ t. crosses z a b ⊕ passes (ltZ (z .x) (a .x)) (ltZ (z .x) (b .x)) (is-above t) (is-above (Turn (quarter b) (quarter a) (quarter z)))) (ring ρ (px (neg (v 3)) (v 2) (neg (v 5)) (v 4) (neg (v 1)) (v 0)) U refl)
+      ∙ ap (λ t. crosses z a b ⊕ passes (ltZ (z .x) (a .x)) (ltZ (z .x) (b .x)) u (is-above t)) (ring ρ (px (neg (v 5)) (v 4) (neg (v 3)) (v 2) (neg (v 1)) (v 0)) D refl)
       ∙ by-quad (cmp (z .y) (a .y)) (cmp (z .x) (a .x)) (cmp (z .y) (b .y)) (cmp (z .x) (b .x))
 
 quad : Point → Point → Bool
@@ -209,11 +217,11 @@ in-quarter c n closed z h = go (on-side-dec c n z) h
 -- ---- rules that keep heights in order: s = 0, p > 0, t > 0
 module _ (M : Rule) (s0 : M .s ≡ pos 0) (p+ : Positive (M .p)) (t+ : Positive (M .t)) where
   high-same : (z a : Point) → higher (app M z) (app M a) ≡ higher z a
-  high-same z a = ltZ-sub (app M z .y) (app M a .y) ∙ ap Ltr (ring1 (z .x ∷ z .y ∷ a .x ∷ a .y ∷ M .s ∷ M .t ∷ M .f ∷ []) (v 4 :* v 2 :+ v 5 :* v 3 :+ v 6 :- (v 4 :* v 0 :+ v 5 :* v 1 :+ v 6)) (v 5 :* (v 3 :- v 1)) (v 2 :- v 0) (v 4) nil s0 refl) ∙ Ltr-scale (M .t) (a .y -ℤ z .y) t+ ∙ sym (ltZ-sub (z .y) (a .y))
+  high-same z a = lt-above (app M z .y) (app M a .y) ∙ ap is-above (ring1 (z .x ∷ z .y ∷ a .x ∷ a .y ∷ M .s ∷ M .t ∷ M .f ∷ []) (v 4 :* v 2 :+ v 5 :* v 3 :+ v 6 :- (v 4 :* v 0 :+ v 5 :* v 1 :+ v 6)) (v 5 :* (v 3 :- v 1)) (v 2 :- v 0) (v 4) nil s0 refl) ∙ above-scale (M .t) (a .y -ℤ z .y) t+ ∙ sym (lt-above (z .y) (a .y))
 
-  left-same : (a b z : Point) → Ltr (turn (app M a) (app M b) (app M z)) ≡ Ltr (turn a b z)
-  left-same a b z = ap Ltr (ring1 (z .x ∷ z .y ∷ a .x ∷ a .y ∷ b .x ∷ b .y ∷ M .p ∷ M .q ∷ M .s ∷ M .t ∷ M .e ∷ M .f ∷ [])
-      (px (X1 (v 2) (v 3)) (Y1 (v 2) (v 3)) (X1 (v 4) (v 5)) (Y1 (v 4) (v 5)) (X1 (v 0) (v 1)) (Y1 (v 0) (v 1))) (v 6 :* v 9 :* px (v 2) (v 3) (v 4) (v 5) (v 0) (v 1)) (neg (v 7 :* px (v 2) (v 3) (v 4) (v 5) (v 0) (v 1))) (v 8) nil s0 refl) ∙ Ltr-scale (M .p *ℤ M .t) (turn a b z) (positive-mul p+ t+)
+  left-same : (a b z : Point) → is-above (Turn (app M a) (app M b) (app M z)) ≡ is-above (Turn a b z)
+  left-same a b z = ap is-above (ring1 (z .x ∷ z .y ∷ a .x ∷ a .y ∷ b .x ∷ b .y ∷ M .p ∷ M .q ∷ M .s ∷ M .t ∷ M .e ∷ M .f ∷ [])
+      (px (X1 (v 2) (v 3)) (Y1 (v 2) (v 3)) (X1 (v 4) (v 5)) (Y1 (v 4) (v 5)) (X1 (v 0) (v 1)) (Y1 (v 0) (v 1))) (v 6 :* v 9 :* px (v 2) (v 3) (v 4) (v 5) (v 0) (v 1)) (neg (v 7 :* px (v 2) (v 3) (v 4) (v 5) (v 0) (v 1))) (v 8) nil s0 refl) ∙ above-scale (M .p *ℤ M .t) (Turn a b z) (positive-mul p+ t+)
     where
       X1 : E → E → E
       X1 x y = v 6 :* x :+ v 7 :* y :+ v 10
@@ -223,10 +231,10 @@ module _ (M : Rule) (s0 : M .s ≡ pos 0) (p+ : Positive (M .p)) (t+ : Positive 
 
   crosses-same : (z a b : Point) → crosses (app M z) (app M a) (app M b) ≡ crosses z a b
   crosses-same z a b =
-      ap (λ t. passes t (higher (app M z) (app M b)) (Ltr (turn (app M a) (app M b) (app M z))) (Ltr (turn (app M b) (app M a) (app M z)))) (high-same z a)
-      ∙ ap (λ t. passes (higher z a) t (Ltr (turn (app M a) (app M b) (app M z))) (Ltr (turn (app M b) (app M a) (app M z)))) (high-same z b)
-      ∙ ap (λ t. passes (higher z a) (higher z b) t (Ltr (turn (app M b) (app M a) (app M z)))) (left-same a b z)
-      ∙ ap (λ t. passes (higher z a) (higher z b) (Ltr (turn a b z)) t) (left-same b a z)
+      ap (λ t. passes t (higher (app M z) (app M b)) (is-above (Turn (app M a) (app M b) (app M z))) (is-above (Turn (app M b) (app M a) (app M z)))) (high-same z a)
+      ∙ ap (λ t. passes (higher z a) t (is-above (Turn (app M a) (app M b) (app M z))) (is-above (Turn (app M b) (app M a) (app M z)))) (high-same z b)
+      ∙ ap (λ t. passes (higher z a) (higher z b) t (is-above (Turn (app M b) (app M a) (app M z)))) (left-same a b z)
+      ∙ ap (λ t. passes (higher z a) (higher z b) (is-above (Turn a b z)) t) (left-same b a z)
 
   odd-same : (c : ℕ → Point) (z : Point) (n : ℕ) → odd (λ m. app M (c m)) (app M z) n ≡ odd c z n
   odd-same c z zero = refl
@@ -277,7 +285,7 @@ module _ (c : ℕ → Point) (n : ℕ) (closed : c n ≡ c 0) (z : Point) (h : I
           ρ′ = M .p ∷ M .q ∷ M .s ∷ M .t ∷ M .e ∷ M .f ∷ a .x ∷ a .y ∷ []
 
   by-flat : (M : Rule) → M .s ≡ pos 0 → Positive (det M) → Positive (M .p) → Kept M
-  by-flat M s0 d+ p+ = in-flat M s0 p+ (ps-right (M .p) (M .t) (positive-nonneg p+) (subst Positive (ring1 (M .p ∷ M .q ∷ M .s ∷ M .t ∷ []) (v 0 :* v 3 :- v 1 :* v 2) (v 0 :* v 3) (neg (v 1)) (v 2) nil s0 refl) d+)) c n z h
+  by-flat M s0 d+ p+ = in-flat M s0 p+ (positive-cancel (positive-nonneg p+) (subst Positive (ring1 (M .p ∷ M .q ∷ M .s ∷ M .t ∷ []) (v 0 :* v 3 :- v 1 :* v 2) (v 0 :* v 3) (neg (v 1)) (v 2) nil s0 refl) d+)) c n z h
 
   minus-det : (M : Rule) → Positive (det M) → Positive (det (minus-rule M))
   minus-det M = by-ring (M .p ∷ M .q ∷ M .s ∷ M .t ∷ []) Positive (v 0 :* v 3 :- v 1 :* v 2) (neg (v 0) :* neg (v 3) :- neg (v 1) :* neg (v 2)) refl
@@ -375,7 +383,7 @@ rule-sight M d+ c n closed I J see z r r+ o = in-back (large r c) n (det M) z d+
         (subst (λ d. Sight d n (app (back M d+ (pos 1)) (app M I)) (app (back M d+ (pos 1)) (app M J))) (fun-ext (λ m. un (c m))) (sight-rule (back M d+ (pos 1)) N+ (λ m. app M (c m)) n (ap (app M) closed) (app M I) (app M J) see)))
 
     held : InOn (λ m. out r (out (det M) (c m))) n (out (det M) z)
-    held = see′ (out (det M) z) r r+ (subst (λ k. On (out (det M) z) k (out r (out (det M) J))) (sym (swap I)) (subst (λ k. On (out (det M) z) (out (det M) (out r I)) k) (sym (swap J)) (Rattle.outline.specs.ParityRound.on-scale (det M) z (out r I) (out r J) d+ o)))
+    held = see′ (out (det M) z) r r+ (subst (λ k. On (out (det M) z) k (out r (out (det M) J))) (sym (swap I)) (subst (λ k. On (out (det M) z) (out (det M) (out r I)) k) (sym (swap J)) (Rattle.outline.specs.Scale.on-scale (det M) z (out r I) (out r J) d+ o)))
 
 -- ---- renumbering by one corner
 pub shift : (c : ℕ → Point) (z : Point) (n : ℕ) → odd (λ m. c (suc m)) z n ⊕ crosses z (c 0) (c 1) ≡ odd c z (suc n)
@@ -405,7 +413,7 @@ odd-renumber c z n e f = cancel (odd (λ m. c (suc m)) z n) (crosses z (c 0) (c 
 -- in or on, with corner 1 called 0; the drawing is taken one corner further round
 pub in-renumber : (c : ℕ → Point) (n : ℕ) → c n ≡ c 0 → c (suc n) ≡ c 1 → (z : Point) → InOn (λ m. c (suc m)) n z → InOn c n z
 in-renumber c n e f z (inr h) = inr (sym (odd-renumber c z n e f) ∙ h)
-in-renumber c n e f z (inl o) = inl (go (Rattle.outline.specs.Between.last (suc (o .m)) n (step (o .m) (o .below))))
+in-renumber c n e f z (inl o) = inl (go (Rattle.outline.specs.Topmost.last (suc (o .m)) n (step (o .m) (o .below))))
   where
     step : (m : ℕ) → m < n → suc m < suc n
     step m b = omega arith

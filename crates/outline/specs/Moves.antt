@@ -13,7 +13,9 @@ use Rattle.outline.specs.Drawing.{Point, corner, corners, next, after}
 use Rattle.outline.specs.Round.{next-last, next-inner}
 use Rattle.outline.specs.InOrOn.{CentreSees}
 use Rattle.outline.specs.Placed.{On}
-use Rattle.outline.specs.Parity.{_⊕_, crosses, odd, OnSide, InOn, out, large}
+use Rattle.outline.specs.Odd.{_⊕_}
+use Rattle.outline.specs.Passing.{crosses}
+use Rattle.outline.specs.Parity.{odd, OnSide, InOn, out, large}
 use Rattle.outline.specs.EveryPoint.{Sight}
 use Rattle.outline.specs.Reading.{round, round-inner, round-closed, sight-read, sight-said}
 use Rattle.outline.specs.Affine.{Rule, app, det, sight-rule, rule-sight, shift}

@@ -5,11 +5,11 @@ use mathlib.Core.List.{[], _∷_}
 use lib.IntN.{ℤ, pos, _-ℤ_, _*ℤ_}
 use lib.Signed.{_≤ℤ_, _<ℤ_}
 use Rattle.whole.specs.Ring.{E, v, _:+_, _:-_, _:*_, neg, ring1, ring2, by-ring}
-use Rattle.whole.specs.Order.{Nonneg, nonneg-pos, positive-nonneg, zero-cancel, le-sub, sub-le}
+use Rattle.whole.specs.Order.{Nonneg, nonneg-pos, positive-nonneg, zero-cancel, diff-zero, le-sub, sub-le}
 use Rattle.outline.specs.Drawing.{Point, Turn, Shared, SharedOnlyAt}
 use Rattle.outline.specs.InOrOn.{Spot, spot, OnSegment}
 use Rattle.outline.specs.Passing.{top}
-use Rattle.outline.specs.Segments.{Dot}
+use Rattle.outline.specs.Segments.{point-eq, Dot}
 use Rattle.outline.specs.Quick.{on-line}
 use Rattle.outline.specs.Spell.{A, B, C, D, P, Q, R, O, I, env, At, ab-x, ab-y}
 
@@ -53,19 +53,14 @@ on-shared {e} {a} {b} o d =
 -- and where only e is shared, the point is e
 same-number : {q s e c : ℤ} → pos 0 <ℤ q → s ≡ q *ℤ e → pos 1 *ℤ s ≡ q *ℤ c → c ≡ e
 same-number {q} {s} {e} {c} p f g =
-    ring1 (c ∷ e ∷ []) (v 0) (v 1) I (v 0 :- v 1) O
-    (zero-cancel p (ring2 (q ∷ s ∷ e ∷ c ∷ []) (v 0 :* (v 3 :- v 2)) O
-    I (v 1) (v 0 :* v 2) (neg I) (I :* v 1) (v 0 :* v 3) f g refl)) refl
+    diff-zero c e (zero-cancel p (ring2 (q ∷ s ∷ e ∷ c ∷ []) (v 0 :* (v 3 :- v 2)) O
+    I (v 1) (v 0 :* v 2) (neg I) (I :* v 1) (v 0 :* v 3) f g refl))
 
 pub only-same : {a b c e : Point} (d : Point) → OnSegment (spot c) a b → SharedOnlyAt e a b c d → c ≡ e
 unfolding on-shared
 only-same d o f =
     let h = f (on-shared o d) in
-    λ i. record {
-      x = same-number (o .q-above) (h .on-x) (o .on-x) i;
-      y = same-number (o .q-above) (h .on-y) (o .on-y)
-          i;
-    }
+    point-eq (same-number (o .q-above) (h .on-x) (o .on-x)) (same-number (o .q-above) (h .on-y) (o .on-y))
 
 -- what ab shares with the segment from e to e is e
 pub shared-on : {e a b : Point} → Shared a b e e → OnSegment (spot e) a b

@@ -1,45 +1,23 @@
--- A drawing, a point in or on it. A drawing is a function from numbers to corners with corner n equal to corner 0; side m runs from corner m to corner m + 1.
--- Assumes nothing.
-use mathlib.Core.Path.{_≡_, refl, sym, _∙_, ap, subst}
-use mathlib.Core.Bool.{Bool, true, false, not}
-use mathlib.Core.Logic.{_⊎_, inl, inr}
-use Prim.Native.Nat.{ℕ, zero, suc, _<_}
-use lib.IntN.{ℤ, pos, _+ℤ_, _-ℤ_, _*ℤ_}
-use lib.Signed.{_≤ℤ_, _<ℤ_, ltZ}
-use Rattle.whole.specs.Order.{Nonneg, Positive}
-use Rattle.outline.specs.Drawing.{Point, Shared, Turn}
+-- A drawing as the laws of "in or on" read it: a function from numbers to corners whose corner n is its corner 0, so
+-- that side m goes from corner m to corner m + 1. A point is a pair of whole numbers; a point (x, y) / r is one of the
+-- drawing r times as large.
+use mathlib.Core.Path.{_≡_}
+use mathlib.Core.Bool.{Bool, true}
+use mathlib.Core.Logic.{_⊎_}
+use Prim.Native.Nat.{ℕ, suc, _<_}
+use lib.IntN.{ℤ, _*ℤ_}
+use Rattle.outline.specs.Drawing.{Point}
+use Rattle.outline.specs.Passing.{crosses}
+use Rattle.outline.specs.Odd as numbers
 use Rattle.outline.specs.Placed.{On}
-
-infixl 36 _⊕_
-abbrev pub _⊕_ : Bool → Bool → Bool
-true ⊕ b = not b
-false ⊕ b = b
 
 abbrev pub pt : ℤ → ℤ → Point
 pt a b = record { x = a; y = b }
 
-abbrev pub turn : Point → Point → Point → ℤ
-turn a b z = Turn a b z
-
--- a is higher than z
-abbrev pub higher : Point → Point → Bool
-higher z a = ltZ (z .y) (a .y)
-
--- of a side ab: is a higher, is b higher, is z strictly left of it as it rises, as it falls
-abbrev pub passes : Bool → Bool → Bool → Bool → Bool
-passes true true up down = false
-passes true false up down = down
-passes false true up down = up
-passes false false up down = false
-
--- one end is higher than z, the other not, and the side passes at z's height strictly to its right
-abbrev pub crosses : Point → Point → Point → Bool
-crosses z a b = passes (higher z a) (higher z b) (ltZ (pos 0) (turn a b z)) (ltZ (pos 0) (turn b a z))
-
--- the number of such sides among the first m is odd
+-- of the first m sides an odd number pass at z's height strictly to its right, with one end higher than z and the
+-- other not
 abbrev pub odd : (ℕ → Point) → Point → ℕ → Bool
-odd c z zero = false
-odd c z (suc m) = crosses z (c m) (c (suc m)) ⊕ odd c z m
+odd c z m = numbers.odd (λ k. crosses z (c k) (c (suc k))) m
 
 pub record OnSide (c : ℕ → Point) (n : ℕ) (z : Point) : Type 0 where
   pub m : ℕ
@@ -56,6 +34,6 @@ out k a = record { x = k *ℤ a .x; y = k *ℤ a .y }
 abbrev pub large : ℤ → (ℕ → Point) → ℕ → Point
 large k c m = out k (c m)
 
--- the point (X, Y) / r lies in or on the drawing c of n corners
+-- the point z / r lies in or on the drawing
 abbrev pub Holds : (ℕ → Point) → ℕ → Point → ℤ → Type 0
 Holds c n z r = InOn (large r c) n z

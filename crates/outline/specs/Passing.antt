@@ -2,18 +2,18 @@
 -- side is taken r times as far out, so that the point is a pair of whole numbers.
 use mathlib.Core.Path.{refl, subst}
 use mathlib.Core.Bool.{Bool, true, false}
-use mathlib.Core.Logic.{_⊎_, inl, inr}
+use mathlib.Core.Logic.{inl, inr}
 use lib.IntN.{ℤ, pos, _-ℤ_, _*ℤ_}
 use lib.Signed.{_≤ℤ_, _<ℤ_, ltZ}
-use Rattle.whole.specs.Ring.{E, _:+_, _:-_, _:*_, ring, ring1, by-ring}
+use Rattle.whole.specs.Ring.{E, _:-_, _:*_, ring, ring1, by-ring}
 use Rattle.whole.specs.Order.{Nonneg, Positive, positive-nonneg, positive-mul, positive-cancel}
 use Rattle.whole.specs.Order.{le-sub, sub-le, lt-sub, sub-lt}
-use Rattle.whole.specs.Order.{≤ℤ-total, ≤ℤ-<ℤ-trans}
+use Rattle.whole.specs.Order.{≤ℤ-<ℤ-trans, not-less}
 use Rattle.outline.specs.Drawing.{Point, Turn}
 use Rattle.outline.specs.InOrOn.{Spot, Higher, OneEndHigher, PassesRight}
 use Rattle.outline.specs.Tells.{Tells, as-well, never}
 use Rattle.outline.specs.Tests.{lt-tells}
-use Rattle.outline.specs.Spell.{PointE, A, B, C, P, Q, R, I, env, TurnE, At}
+use Rattle.outline.specs.Spell.{A, B, C, P, Q, R, I, env, OutE, TurnE, At}
 
 -- ---- the test
 -- is the end a higher than e; is e strictly left of the line from a to b
@@ -42,11 +42,8 @@ abbrev pub grown : Spot → Point → Point
 grown z a = record { x = z .r *ℤ a .x; y = z .r *ℤ a .y }
 
 -- ---- the test equals 01's sentence. A, B and C spell a, b and the point
-abbrev growE : PointE → PointE
-growE a = record { x = R :* a .x; y = R :* a .y }
-
 abbrev turnE : E
-turnE = TurnE (growE A) (growE B) C
+turnE = TurnE (OutE R A) (OutE R B) C
 
 -- how far the side rises, and the point above its start
 abbrev riseE : E
@@ -56,6 +53,34 @@ abbrev overE : E
 overE = C .y :- R :* A .y
 
 module _ (z : Spot) (a b : Point) where
+  -- a side that rises past the point
+  module _ (low : (z .r *ℤ a .y) ≤ℤ z .y) (high : Higher z b) where
+    rises : Positive (z .r *ℤ b .y -ℤ z .r *ℤ a .y)
+    rises = lt-sub (≤ℤ-<ℤ-trans low high)
+
+    right-left : PassesRight z a b → Positive (Turn (grown z a) (grown z b) (top z))
+    right-left t =
+        positive-cancel (positive-nonneg (t .q-above))
+        (subst Positive
+        (ring1 (env a b (top z) a (t .p) (t .q) (z .r)) (riseE :* (R :* At Q (A .x) P (B .x) :- Q :* C .x))
+        (Q :* turnE)
+        (R :* B .x :- R :* A .x) (R :* At Q (A .y) P (B .y)) (Q :* C .y) (t .height) refl)
+        (positive-mul rises (lt-sub (t .larger))))
+
+    left-right : Positive (Turn (grown z a) (grown z b) (top z)) → PassesRight z a b
+    left-right t =
+        let ρ = env a b (top z) a (pos 0) (pos 0) (z .r) in
+        record {
+          p = z .y -ℤ z .r *ℤ a .y;
+          q = z .r *ℤ b .y -ℤ z .r *ℤ a .y;
+          q-above = rises;
+          p-from = le-sub low;
+          p-to = sub-le (by-ring ρ Nonneg (R :* B .y :- C .y) (riseE :- overE) refl (positive-nonneg (lt-sub high)));
+          height = ring ρ (R :* At riseE (A .y) overE (B .y)) (riseE :* C .y) refl;
+          larger = sub-lt (by-ring ρ Positive turnE (R :* At riseE (A .x) overE (B .x) :- riseE :* C .x) refl t);
+        }
+
+  -- and one that falls, turned round
   turned : PassesRight z a b → PassesRight z b a
   turned t =
       let ρ = env a b (top z) a (t .p) (t .q) (z .r) in
@@ -72,40 +97,6 @@ module _ (z : Spot) (a b : Point) where
             subst (λ k. (t .q *ℤ z .x) <ℤ k)
             (ring ρ (R :* At Q (A .x) P (B .x)) (R :* At Q (B .x) (Q :- P) (A .x)) refl) (t .larger);
       }
-
-  -- a side that rises past the point
-  module _ (low : (z .r *ℤ a .y) ≤ℤ z .y) (high : Higher z b) where
-    rises : Positive (z .r *ℤ b .y -ℤ z .r *ℤ a .y)
-    rises = lt-sub (≤ℤ-<ℤ-trans low high)
-
-    left-right : Positive (Turn (grown z a) (grown z b) (top z)) → PassesRight z a b
-    left-right t =
-        let ρ = env a b (top z) a (pos 0) (pos 0) (z .r) in
-        record {
-          p = z .y -ℤ z .r *ℤ a .y;
-          q = z .r *ℤ b .y -ℤ z .r *ℤ a .y;
-          q-above = rises;
-          p-from = le-sub low;
-          p-to = sub-le (by-ring ρ Nonneg (R :* B .y :- C .y) (riseE :- overE) refl (positive-nonneg (lt-sub high)));
-          height = ring ρ (R :* At riseE (A .y) overE (B .y)) (riseE :* C .y) refl;
-          larger = sub-lt (by-ring ρ Positive turnE (R :* At riseE (A .x) overE (B .x) :- riseE :* C .x) refl t);
-        }
-
-    right-left : PassesRight z a b → Positive (Turn (grown z a) (grown z b) (top z))
-    right-left t =
-        positive-cancel (positive-nonneg (t .q-above))
-        (subst Positive
-        (ring1 (env a b (top z) a (t .p) (t .q) (z .r)) (riseE :* (R :* At Q (A .x) P (B .x) :- Q :* C .x))
-        (Q :* turnE)
-        (R :* B .x :- R :* A .x) (R :* At Q (A .y) P (B .y)) (Q :* C .y) (t .height) refl)
-        (positive-mul rises (lt-sub (t .larger))))
-
-not-higher : (z : Spot) (a : Point) → ¬ Higher z a → (z .r *ℤ a .y) ≤ℤ z .y
-not-higher z a n = go (≤ℤ-total (z .r *ℤ a .y) (z .y))
-  where
-    go : ((z .r *ℤ a .y) ≤ℤ z .y) ⊎ (z .y <ℤ (z .r *ℤ a .y)) → (z .r *ℤ a .y) ≤ℤ z .y
-    go (inl h) = h
-    go (inr h) = absurd (n h)
 
 pub passing : (z : Spot) (a b : Point) →
     Tells (crosses (top z) (grown z a) (grown z b)) (OneEndHigher z a b × PassesRight z a b)
@@ -127,12 +118,12 @@ passing z a b =
     go true true h k = never (λ p. both (h .sure tt) (k .sure tt) (p .0))
     go false false h k = never (λ p. neither (λ x. h .told x) (λ x. k .told x) (p .0))
     go false true h k =
-        let low = not-higher z a (λ x. h .told x) in
+        let low = not-less (λ x. h .told x) in
         as-well (lt-tells (pos 0) (Turn (grown z a) (grown z b) (top z)))
         (λ t. (inr ((λ x. h .told x), k .sure tt), left-right z a b low (k .sure tt) t))
         (λ p. right-left z a b low (k .sure tt) (p .1))
     go true false h k =
-        let low = not-higher z b (λ x. k .told x) in
+        let low = not-less (λ x. k .told x) in
         as-well (lt-tells (pos 0) (Turn (grown z b) (grown z a) (top z)))
         (λ t. (inl (h .sure tt, λ x. k .told x), turned z b a (left-right z b a low (h .sure tt) t)))
         (λ p. right-left z b a low (h .sure tt) (turned z a b (p .1)))

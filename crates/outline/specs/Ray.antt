@@ -1,157 +1,110 @@
--- Close to a corner W: a segment between two directions, and a side from W. Assumes nothing.
-use mathlib.Core.Path.{_≡_, refl, sym, _∙_, ap, subst}
-use mathlib.Core.Bool.{Bool, true, false, not}
-use mathlib.Core.Logic.{_⊎_, inl, inr}
-use mathlib.Core.List.{List, [], _∷_}
-use lib.IntN.{ℤ, pos, negℤ, _+ℤ_, _-ℤ_, _*ℤ_}
-use lib.Signed.{_≤ℤ_, _<ℤ_, <ℤ-irrefl}
-use Rattle.whole.specs.Ring.{E, v, con, _:+_, _:-_, _:*_, neg, ring, ring1, ring2, by-ring}
-use Rattle.whole.specs.Order.{Nonneg, Positive, nonneg-pos, positive-pos, nonneg-add, nonneg-mul, positive-nonneg, positive-add, positive-mul, positive-pred, positive-not, positive-cancel, zero-cancel, le-sub, sub-le}
-use Rattle.outline.specs.Drawing.{Point, Shared}
-use Rattle.outline.specs.Placed.{On, Frac, frac-of}
-use Rattle.outline.specs.Segments.{one-side, turned-first, exchanged, Dot}
-use Rattle.outline.specs.Parity.{turn, out}
-use Rattle.outline.specs.Stretch.{len2}
-use Rattle.outline.specs.Through.{Thru}
+-- Close to a corner W: in a drawing K times as large, 1/K of the way from W to I and to J; and a side from W to e.
+--
+--         J                  The segment between the two near points meets the side from W exactly
+--        /  e                where the side goes between I and J.
+--       /.--
+--      W ------ I
+use mathlib.Core.Path.{_≡_, refl, _∙_, subst}
+use mathlib.Core.Bool.{Bool}
+use mathlib.Core.Logic.{inl}
+use mathlib.Core.List.{[], _∷_}
+use lib.IntN.{ℤ, pos, negℤ, _-ℤ_, _*ℤ_}
+use lib.Signed.{_≤ℤ_}
+use Rattle.whole.specs.Ring.{v, _:+_, _:-_, _:*_, neg, ring, by-ring}
+use Rattle.whole.specs.Order.{Nonneg, Positive, nonneg-pos, nonneg-add, nonneg-mul, positive-nonneg, positive-add}
+use Rattle.whole.specs.Order.{positive-mul, positive-pred, positive-not, zero-cancel, le-sub}
+use Rattle.outline.specs.Drawing.{Point, Shared, Turn}
+use Rattle.outline.specs.Segments.{one-side, turned-first, exchanged, dot-nonneg}
+use Rattle.outline.specs.Spell.{PointE, A, B, C, D, P, O, I, env, outE, TurnE, DotE}
+use Rattle.outline.specs.Placed.{On, on-dot}
+use Rattle.outline.specs.Parity.{out}
+use Rattle.outline.specs.Through.{RunsThrough}
 use Rattle.outline.specs.Near.{near}
-use Rattle.outline.specs.Change.{Inner, px}
+use Rattle.outline.specs.Directions.{Away, right-left, in-line-back}
+use Rattle.outline.specs.Inner.{inner-turned, inner-near}
+use Rattle.outline.specs.Rising.{Rises}
+use Rattle.outline.specs.SideChanges.{Changes}
+use Rattle.outline.specs.InnerChanges.{inner-changes}
 
-abbrev nil : E
-nil = con (pos 0)
+-- A spells W, P spells K
+abbrev nearE : PointE → PointE
+nearE z = record { x = P :* A .x :+ (z .x :- A .x); y = P :* A .y :+ (z .y :- A .y) }
 
-abbrev one : E
-one = con (pos 1)
+-- K is large enough
+pub above-one : (K : ℤ) → Positive (K -ℤ pos 1) → Positive K
+above-one K h = by-ring (K ∷ []) Positive (v 0 :- I :+ I) (v 0) refl (positive-add h (nonneg-pos 1))
 
--- ---- turns at W
--- W a b are 0 to 5
-abbrev env3 : Point → Point → Point → List ℤ
-env3 W a b = W .x ∷ W .y ∷ a .x ∷ a .y ∷ b .x ∷ b .y ∷ []
+-- ---- the turns of a near point
+module _ (W z e : Point) (K : ℤ) where
+  pub turn-from : K *ℤ Turn W e z ≡ Turn (out K W) (out K e) (near W K z)
+  turn-from =
+      ring (env W z e e K (pos 0) (pos 0)) (P :* TurnE A C B) (TurnE (outE A) (outE C) (nearE B)) refl
 
-abbrev tab : E
-tab = px (v 0) (v 1) (v 2) (v 3) (v 4) (v 5)
+  pub turn-to : K *ℤ Turn W z e ≡ Turn (out K e) (out K W) (near W K z)
+  turn-to = ring (env W z e e K (pos 0) (pos 0)) (P :* TurnE A B C) (TurnE (outE C) (outE A) (nearE B)) refl
 
-abbrev tba : E
-tba = px (v 0) (v 1) (v 4) (v 5) (v 2) (v 3)
-
-module _ (W a b : Point) where
-  pub anti+ : Positive (negℤ (turn W a b)) → Positive (turn W b a)
-  anti+ h = by-ring (env3 W a b) Positive (neg tab) tba refl h
-
-  pub anti- : Positive (turn W a b) → Positive (negℤ (turn W b a))
-  anti- h = by-ring (env3 W a b) Positive tab (neg tba) refl h
-
-  pub anti0 : turn W a b ≡ pos 0 → turn W b a ≡ pos 0
-  anti0 e = ring1 (env3 W a b) tba nil (neg one) tab nil e refl
-
-  pub cycle : turn a W b ≡ turn W b a
-  cycle = ring (env3 W a b) (px (v 2) (v 3) (v 0) (v 1) (v 4) (v 5)) tba refl
-
--- W a b z are 0 to 7
-module _ (W a b z : Point) (e : turn W a b ≡ pos 0) (o : Positive (negℤ (Dot W a b))) where
-  abbrev ρ : List ℤ
-  ρ = W .x ∷ W .y ∷ a .x ∷ a .y ∷ b .x ∷ b .y ∷ z .x ∷ z .y ∷ []
-
-  abbrev L2 : E
-  L2 = (v 2 :- v 0) :* (v 2 :- v 0) :+ (v 3 :- v 1) :* (v 3 :- v 1)
-
-  abbrev DAB : E
-  DAB = (v 2 :- v 0) :* (v 4 :- v 0) :+ (v 3 :- v 1) :* (v 5 :- v 1)
-
-  abbrev DAZ : E
-  DAZ = (v 2 :- v 0) :* (v 6 :- v 0) :+ (v 3 :- v 1) :* (v 7 :- v 1)
-
-  len-nonneg : Nonneg (len2 W a)
-  len-nonneg = nonneg-add (Rattle.whole.specs.Order.square-nonneg (a .x -ℤ W .x)) (Rattle.whole.specs.Order.square-nonneg (a .y -ℤ W .y))
-
-  -- b points away from a: what is left of a is right of b
-  pub opp : Positive (turn W a z) → Positive (negℤ (turn W b z))
-  opp h = positive-cancel len-nonneg (subst Positive (ring1 ρ (neg DAB :* px (v 0) (v 1) (v 2) (v 3) (v 6) (v 7)) (L2 :* neg (px (v 0) (v 1) (v 4) (v 5) (v 6) (v 7))) (neg DAZ) tab nil e refl) (positive-mul o h))
-
-  pub opp′ : Positive (turn W z a) → Positive (negℤ (turn W z b))
-  opp′ h = positive-cancel len-nonneg (subst Positive (ring1 ρ (neg DAB :* px (v 0) (v 1) (v 6) (v 7) (v 2) (v 3)) (L2 :* neg (px (v 0) (v 1) (v 6) (v 7) (v 4) (v 5))) DAZ tab nil e refl) (positive-mul o h))
-
--- ---- near points
--- W I J e are 0 to 7, K is 8
-module _ (W I J e : Point) (K : ℤ) where
-  abbrev π : List ℤ
-  π = W .x ∷ W .y ∷ I .x ∷ I .y ∷ J .x ∷ J .y ∷ e .x ∷ e .y ∷ K ∷ []
-
-  abbrev nx : E → E → E
-  nx w z = v 8 :* w :+ (z :- w)
-
-  abbrev TIJ : E
-  TIJ = px (v 0) (v 1) (v 2) (v 3) (v 4) (v 5)
-
-  abbrev TIe : E
-  TIe = px (v 0) (v 1) (v 2) (v 3) (v 6) (v 7)
-
-  abbrev TeI : E
-  TeI = px (v 0) (v 1) (v 6) (v 7) (v 2) (v 3)
-
-  abbrev TeJ : E
-  TeJ = px (v 0) (v 1) (v 6) (v 7) (v 4) (v 5)
-
-  pub from-W : K *ℤ turn W e I ≡ turn (out K W) (out K e) (near W K I)
-  from-W = ring π (v 8 :* TeI) (px (v 8 :* v 0) (v 8 :* v 1) (v 8 :* v 6) (v 8 :* v 7) (nx (v 0) (v 2)) (nx (v 1) (v 3))) refl
-
-  pub to-W : K *ℤ turn W I e ≡ turn (out K e) (out K W) (near W K I)
-  to-W = ring π (v 8 :* TIe) (px (v 8 :* v 6) (v 8 :* v 7) (v 8 :* v 0) (v 8 :* v 1) (nx (v 0) (v 2)) (nx (v 1) (v 3))) refl
-
-  at-W : turn W I J ≡ turn (near W K I) (near W K J) (out K W)
-  at-W = ring π TIJ (px (nx (v 0) (v 2)) (nx (v 1) (v 3)) (nx (v 0) (v 4)) (nx (v 1) (v 5)) (v 8 :* v 0) (v 8 :* v 1)) refl
-
-  at-e : turn W I J -ℤ K *ℤ (turn W I e +ℤ turn W e J) ≡ turn (near W K I) (near W K J) (out K e)
-  at-e = ring π (TIJ :- v 8 :* (TIe :+ TeJ)) (px (nx (v 0) (v 2)) (nx (v 1) (v 3)) (nx (v 0) (v 4)) (nx (v 1) (v 5)) (v 8 :* v 6) (v 8 :* v 7)) refl
-
-  at-e′ : K *ℤ (turn W I e +ℤ turn W e J) -ℤ turn W I J ≡ turn (near W K J) (near W K I) (out K e)
-  at-e′ = ring π (v 8 :* (TIe :+ TeJ) :- TIJ) (px (nx (v 0) (v 4)) (nx (v 1) (v 5)) (nx (v 0) (v 2)) (nx (v 1) (v 3)) (v 8 :* v 6) (v 8 :* v 7)) refl
-
--- the side to e is not between I and J
+-- ---- the side from W to e does not go between I and J, where J is left of I
 pub data Beyond (x y : ℤ) : Type 0 where
   behind : Nonneg (negℤ x) → Nonneg (negℤ y) → Beyond x y
-  before : Positive (negℤ x) → Positive y → Beyond x y
-  after : Positive x → Positive (negℤ y) → Beyond x y
+  before-I : Positive (negℤ x) → Positive y → Beyond x y
+  past-J : Positive x → Positive (negℤ y) → Beyond x y
 
-module _ (W I J e : Point) (K : ℤ) (K+ : Positive K) (T+ : Positive (turn W I J)) where
-  pub ray-apart : Beyond (turn W I e) (turn W e J) → Shared (near W K I) (near W K J) (out K e) (out K W) → ⊥
-  ray-apart (behind hx hy) s = one-side (inl (
-    subst Positive (at-e W I J e K) (by-ring (turn W I J ∷ K ∷ turn W I e ∷ turn W e J ∷ []) Positive (v 0 :+ v 1 :* (neg (v 2) :+ neg (v 3))) (v 0 :- v 1 :* (v 2 :+ v 3)) refl (positive-add T+ (nonneg-mul (positive-nonneg K+) (nonneg-add hx hy)))),
-    subst Positive (at-W W I J e K) T+)) s
-  ray-apart (before hx hy) s = one-side (inl (
-    subst Positive (from-W W I J e K) (positive-mul K+ (anti+ W I e hx)),
-    subst Positive (from-W W J I e K) (positive-mul K+ hy))) (turned-first (exchanged s))
-  ray-apart (after hx hy) s = one-side (inl (
-    subst Positive (to-W W I J e K) (positive-mul K+ hx),
-    subst Positive (to-W W J I e K) (positive-mul K+ (anti+ W e J hy)))) (exchanged s)
+module _ (W I′ J e : Point) (K : ℤ) (K+ : Positive K) (left : Positive (Turn W I′ J)) where
+  at-W : Positive (Turn (near W K I′) (near W K J) (out K W))
+  at-W =
+      by-ring (env W I′ J e K (pos 0) (pos 0)) Positive (TurnE A B C) (TurnE (nearE B) (nearE C) (outE A)) refl left
 
-  pub ray-thru : Positive (turn W I e) → Positive (turn W e J) → turn W I J ≤ℤ K → Thru (near W K I) (near W K J) (out K e) (out K W)
+  pub ray-apart : Beyond (Turn W I′ e) (Turn W e J) → ¬ Shared (near W K I′) (near W K J) (out K e) (out K W)
+  ray-apart (behind hx hy) s =
+      one-side (inl (
+        by-ring (env W I′ J e K (pos 0) (pos 0)) Positive
+            (TurnE A B C :+ P :* (neg (TurnE A B D) :+ neg (TurnE A D C))) (TurnE (nearE B) (nearE C) (outE D)) refl
+            (positive-add left (nonneg-mul (positive-nonneg K+) (nonneg-add hx hy))),
+        at-W,
+      )) s
+  ray-apart (before-I hx hy) s =
+      one-side (inl (
+        subst Positive (turn-from W I′ e K) (positive-mul K+ (right-left W I′ e hx)),
+        subst Positive (turn-from W J e K) (positive-mul K+ hy),
+      )) (turned-first (exchanged s))
+  ray-apart (past-J hx hy) s =
+      one-side (inl (
+        subst Positive (turn-to W I′ e K) (positive-mul K+ hx),
+        subst Positive (turn-to W J e K) (positive-mul K+ (right-left W e J hy)),
+      )) (exchanged s)
+
+  -- it does
+  pub ray-thru : Positive (Turn W I′ e) → Positive (Turn W e J) → Turn W I′ J ≤ℤ K →
+      RunsThrough (near W K I′) (near W K J) (out K e) (out K W)
   ray-thru hx hy h = record {
-    t1 = subst Positive (at-e′ W I J e K) (by-ring (turn W I J ∷ K ∷ turn W I e ∷ turn W e J ∷ []) Positive (v 1 :+ (v 1 :* (v 2 :- one) :+ v 1 :* (v 3 :- one) :+ (v 1 :- v 0))) (v 1 :* (v 2 :+ v 3) :- v 0) refl
-        (positive-add K+ (nonneg-add (nonneg-add (nonneg-mul (positive-nonneg K+) (positive-pred hx)) (nonneg-mul (positive-nonneg K+) (positive-pred hy))) (le-sub h))));
-    t2 = subst Positive (at-W W I J e K) T+;
-    t3 = subst Positive (to-W W I J e K) (positive-mul K+ hx);
-    t4 = subst Positive (from-W W J I e K) (positive-mul K+ hy);
+    t1 = by-ring (env W I′ J e K (pos 0) (pos 0)) Positive
+        (P :+ (P :* (TurnE A B D :- I) :+ P :* (TurnE A D C :- I) :+ (P :- TurnE A B C)))
+        (TurnE (nearE C) (nearE B) (outE D)) refl
+        (positive-add K+ (nonneg-add (nonneg-add (nonneg-mul (positive-nonneg K+) (positive-pred hx))
+        (nonneg-mul (positive-nonneg K+) (positive-pred hy))) (le-sub h)));
+    t2 = at-W;
+    t3 = subst Positive (turn-to W I′ e K) (positive-mul K+ hx);
+    t4 = subst Positive (turn-from W J e K) (positive-mul K+ hy);
   }
 
--- ---- the near point of a side from W lies between its ends
-pub near-inner : (W q : Point) (K : ℤ) → Positive (K -ℤ pos 1) → Inner (near W K q) (out K W) (out K q)
-near-inner W q K h = record {
-  k = K -ℤ pos 1; m = pos 1; k+ = h; m+ = positive-pos 0;
-  mean-x = ax (W .x) (q .x);
-  mean-y = ax (W .y) (q .y);
-}
-  where
-    ax : (w q : ℤ) → (K -ℤ pos 1) *ℤ (K *ℤ w -ℤ (K *ℤ w +ℤ (q -ℤ w))) +ℤ pos 1 *ℤ (K *ℤ q -ℤ (K *ℤ w +ℤ (q -ℤ w))) ≡ pos 0
-    ax w q = ring (K ∷ w ∷ q ∷ []) ((v 0 :- one) :* (v 0 :* v 1 :- (v 0 :* v 1 :+ (v 2 :- v 1))) :+ one :* (v 0 :* v 2 :- (v 0 :* v 1 :+ (v 2 :- v 1)))) nil refl
+-- ---- a direction that does not point along the side from W to e: its near point is not on the side
+pub ray-off : (W e J : Point) (K : ℤ) → Positive K → Away W J e → ¬ On (near W K J) (out K W) (out K e)
+ray-off W e J K K+ away o =
+    positive-not (positive-mul K+ (away (in-line-back W e J (zero-cancel K+ (turn-from W J e K ∙ o .line)))))
+    (by-ring (env W J e e K (pos 0) (pos 0)) Nonneg (O :- DotE (nearE B) (outE A) (outE C) :+ DotE A B B)
+    (neg (P :* neg (DotE A B C))) refl
+    (nonneg-add (le-sub (on-dot o)) (dot-nonneg W J)))
 
--- and the near point of a direction that does not point along the side is not on it
-pub ray-off : (W q J : Point) (K : ℤ) → Positive K → (turn W J q ≡ pos 0 → Positive (negℤ (Dot W J q))) → On (near W K J) (out K W) (out K q) → ⊥
-ray-off W q J K K+ away o = positive-not (positive-mul (f .k+) (away (anti0 W q J (zero-cancel K+ (from-W W J J q K ∙ o .line)))))
-    (subst Nonneg (ring2 (W .x ∷ W .y ∷ J .x ∷ J .y ∷ q .x ∷ q .y ∷ K ∷ f .m ∷ f .k ∷ []) (v 7 :* (v 6 :* ((v 4 :- v 0) :* (v 4 :- v 0) :+ (v 5 :- v 1) :* (v 5 :- v 1))))
-    (neg (v 8 :* neg ((v 2 :- v 0) :* (v 4 :- v 0) :+ (v 3 :- v 1) :* (v 5 :- v 1))))
-    (neg (v 4 :- v 0)) (v 8 :* (v 6 :* v 0 :+ (v 2 :- v 0) :- v 6 :* v 0)) (v 7 :* (v 6 :* v 4 :- v 6 :* v 0))
-    (neg (v 5 :- v 1)) (v 8 :* (v 6 :* v 1 :+ (v 3 :- v 1) :- v 6 :* v 1)) (v 7 :* (v 6 :* v 5 :- v 6 :* v 1)) (f .fx) (f .fy) refl)
-    (nonneg-mul (f .m0) (nonneg-mul (positive-nonneg K+) (nonneg-add (Rattle.whole.specs.Order.square-nonneg (q .x -ℤ W .x)) (Rattle.whole.specs.Order.square-nonneg (q .y -ℤ W .y))))))
-  where
-    f : Frac (near W K J) (out K W) (out K q)
-    f = frac-of (near W K J) (out K W) (out K q) o
+-- ---- from the near point of I to that of e, on the side between W and e: the side changes the parity as it rises
+module _ (W z e : Point) (K : ℤ) (big : Positive (K -ℤ pos 1)) where
+  pub from-left : Positive (Turn W e z) → {r : Bool} → Rises (out K W) (out K e) r →
+      Changes (near W K z) (near W K e) (out K W) (out K e) r
+  from-left h r =
+      inner-changes (near W K z) (near W K e) (out K W) (out K e) (inner-near W e K big)
+      (subst Positive (turn-from W z e K) (positive-mul (above-one K big) h)) r
+
+  pub from-right : Positive (Turn W z e) → {r : Bool} → Rises (out K e) (out K W) r →
+      Changes (near W K z) (near W K e) (out K e) (out K W) r
+  from-right h r =
+      inner-changes (near W K z) (near W K e) (out K e) (out K W) (inner-turned (inner-near W e K big))
+      (subst Positive (turn-to W z e K) (positive-mul (above-one K big) h)) r

@@ -18,11 +18,16 @@ pub record Passes (d : List ℤ) (i j k : ℕ) : Type 0 where
       SharedOnlyAt (corner d j) (corner d i) (corner d j) (corner d k) (corner d (after d k))
 
 -- no side ends at two corners that are not beside each other
-one-end : (d : List ℤ) (i j k : ℕ) → ¬ Beside d i j → EndsAt d k i → ¬ EndsAt d k j
+pub one-end : (d : List ℤ) (i j k : ℕ) → ¬ Beside d i j → EndsAt d k i → ¬ EndsAt d k j
 one-end d i j k apart (inl e) (inl f) = apart (inl (sym e ∙ f))
 one-end d i j k apart (inl e) (inr f) = apart (inr (inl (ap (after d) (sym e) ∙ f)))
 one-end d i j k apart (inr e) (inl f) = apart (inr (inr (ap (after d) (sym f) ∙ e)))
 one-end d i j k apart (inr e) (inr f) = apart (inl (sym e ∙ f))
+
+-- a side neither begins nor ends there
+pub no-end : (d : List ℤ) {k m : ℕ} → ¬ (k ≡ m) → ¬ (after d k ≡ m) → ¬ EndsAt d k m
+no-end d f g (inl e) = f e
+no-end d f g (inr e) = g e
 
 -- of four corners a b u w: the segments ab and uw share only corner e
 abbrev pub OnlyCorner : List ℤ → ℕ → ℕ → ℕ → ℕ → ℕ → Type 0
@@ -72,15 +77,15 @@ module _ {d : List ℤ} {i j k : ℕ} where
   pub ends-at-neither : ¬ (k ≡ i) → ¬ (after d k ≡ i) → ¬ (k ≡ j) → ¬ (after d k ≡ j) →
       (¬ Shared (corner d i) (corner d j) (corner d k) (corner d (after d k))) ↔ Passes d i j k
   ends-at-neither f g h l = (
-    λ n. record { other = λ p q. n; ends-at-i = λ e. absurd (no-end f g e); ends-at-j = λ e. absurd (no-end h l e) },
-    λ p. p .other (no-end f g) (no-end h l),
+    λ n. record {
+      other = λ p q. n;
+      ends-at-i = λ e. absurd (no-end d f g e);
+      ends-at-j = λ e. absurd (no-end d h l e);
+    },
+    λ p. p .other (no-end d f g) (no-end d h l),
   )
-    where
-      no-end : {m : ℕ} → ¬ (k ≡ m) → ¬ (after d k ≡ m) → ¬ EndsAt d k m
-      no-end f g (inl e) = f e
-      no-end f g (inr e) = g e
 
-  passes-back : Passes d i j k → Passes d j i k
+  pub passes-back : Passes d i j k → Passes d j i k
   passes-back p = record {
     other = λ f g s. p .other g f (turned-first s);
     ends-at-i = λ e. only-first (p .ends-at-j e);

@@ -2,9 +2,9 @@
 -- on one side of a line leave nothing to share with a segment on that line.
 use mathlib.Core.Path.{_≡_, refl, sym, _∙_, subst}
 use mathlib.Core.Logic.{_⊎_, inl, inr}
-use lib.IntN.{ℤ, pos, _+ℤ_, _-ℤ_, _*ℤ_}
+use lib.IntN.{ℤ, pos, negℤ, _+ℤ_, _-ℤ_, _*ℤ_}
 use lib.Signed.{_<ℤ_, <ℤ-irrefl}
-use Rattle.whole.specs.Ring.{E, _:+_, _:-_, _:*_, neg, ring1, ring2, by-ring}
+use Rattle.whole.specs.Ring.{E, _:+_, _:-_, _:*_, neg, ring, ring1, ring2, by-ring}
 use Rattle.whole.specs.Order.{Nonneg, Positive, le-sub, sub-le, lt-sub, nonneg-add, nonneg-mul, positive-add}
 use Rattle.whole.specs.Order.{positive-pred, square-nonneg}
 use Rattle.outline.specs.Drawing.{Point, Shared, SharedOnlyAt, Turn}
@@ -57,6 +57,21 @@ only-second h s = h (turned-second s)
 
 pub only-first : {e a b c d : Point} → SharedOnlyAt e a b c d → SharedOnlyAt e b a c d
 only-first h = only-exchanged (only-second (only-exchanged h))
+
+-- ---- points and turns
+pub point-eq : {a b : Point} → a .x ≡ b .x → a .y ≡ b .y → a ≡ b
+point-eq ex ey = λ i. record { x = ex i; y = ey i }
+
+-- seen from the other end, left is right
+pub turn-back : (a b c : Point) → negℤ (Turn a b c) ≡ Turn b a c
+turn-back a b c = ring (env4 a b c c) (neg (TurnE A B C)) (TurnE B A C) refl
+
+-- the ends of a segment do not turn from it
+pub turn-start : (a b : Point) → Turn a b a ≡ pos 0
+turn-start a b = ring (env4 a b a b) (TurnE A B A) O refl
+
+pub turn-end : (a b : Point) → Turn a b b ≡ pos 0
+turn-end a b = ring (env4 a b a b) (TurnE A B B) O refl
 
 -- ---- two turns of one sign, neither zero
 abbrev pub OneSide : ℤ → ℤ → Type 0

@@ -36,6 +36,9 @@ O = con (pos 0)
 abbrev pub I : E
 I = con (pos 1)
 
+abbrev pub Two : E
+Two = con (pos 2)
+
 abbrev pub env : Point → Point → Point → Point → ℤ → ℤ → ℤ → List ℤ
 env a b c d p q r = a .x ∷ a .y ∷ b .x ∷ b .y ∷ c .x ∷ c .y ∷ d .x ∷ d .y ∷ p ∷ q ∷ r ∷ []
 
@@ -46,8 +49,16 @@ env4 a b c d = env a b c d (pos 0) (pos 0) (pos 0)
 abbrev pub TurnE : PointE → PointE → PointE → E
 TurnE a b c = (b .x :- a .x) :* (c .y :- a .y) :- (b .y :- a .y) :* (c .x :- a .x)
 
+-- a point k times as far out
+abbrev pub OutE : E → PointE → PointE
+OutE k a = record { x = k :* a .x; y = k :* a .y }
+
 abbrev pub DotE : PointE → PointE → PointE → E
 DotE z u w = (u .x :- z .x) :* (w .x :- z .x) :+ (u .y :- z .y) :* (w .y :- z .y)
+
+-- p times as far out
+abbrev pub outE : PointE → PointE
+outE a = record { x = P :* a .x; y = P :* a .y }
 
 -- r times a coordinate of the point of a segment that p and r name; the segment's ends have s and t there
 abbrev pub At : E → E → E → E → E

@@ -6,7 +6,7 @@ use lib.IntN.{ℤ, pos}
 use lib.Signed.{leZ, ltZ, _≤ℤ_, _<ℤ_, leZ-yes, ltZ-yes, ≤ℤ-refl}
 use Rattle.whole.specs.Order.{≤ℤ-antisym}
 use Rattle.outline.specs.Drawing.{Point, Shared, SharedOnlyAt, Turn, InsideAngle}
-use Rattle.outline.specs.Segments.{OneSide, Dot}
+use Rattle.outline.specs.Segments.{point-eq, OneSide, Dot}
 use Rattle.outline.specs.Quick.{Touch, quick-sound, quick-complete}
 use Rattle.outline.specs.Ends.{only-sound, only-complete}
 use Rattle.outline.specs.Tells.{Tells, passed, failed, as-well, surely, never, and-tells, or-tells, not-tells}
@@ -32,7 +32,7 @@ same-test a b = same-number (a .x) (b .x) && same-number (a .y) (b .y)
 pub same-tells : (a b : Point) → Tells (same-test a b) (a ≡ b)
 same-tells a b =
     as-well (and-tells (number-tells (a .x) (b .x)) (number-tells (a .y) (b .y)))
-    (λ h i. record { x = h .0 i; y = h .1 i }) (λ e. (ap (λ (p : Point). p .x) e, ap (λ (p : Point). p .y) e))
+    (λ h. point-eq (h .0) (h .1)) (λ e. (ap (λ (p : Point). p .x) e, ap (λ (p : Point). p .y) e))
 
 -- ---- a shared point
 abbrev pub side-test : ℤ → ℤ → Bool

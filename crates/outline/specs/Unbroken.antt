@@ -9,11 +9,11 @@ use lib.IntN.{ℤ, pos}
 use lib.Signed.{_≤ℤ_, _<ℤ_, clashℤ}
 use Rattle.whole.specs.Ring.{_:-_, _:*_, ring1}
 use Rattle.whole.specs.Order.{Nonneg, Positive, nonneg-mul, positive-mul, sub-le, <ℤ-le, ≤ℤ-total}
-use Rattle.outline.specs.Drawing.{Point, Turn, corner, corners, after, Simple, EndsAt, Beside, Clear, Sees}
+use Rattle.outline.specs.Drawing.{Point, Turn, corner, corners, after, Simple, Beside, Clear, Sees}
 use Rattle.outline.specs.InOrOn.{spot, OnSegment}
 use Rattle.outline.specs.OnSegment.{on-turned, on-shared, only-same, on-of}
 use Rattle.outline.specs.Segments.{Dot, dot-nonneg, only-exchanged}
-use Rattle.outline.specs.Seeing.{OnlyCorner}
+use Rattle.outline.specs.Seeing.{OnlyCorner, no-end}
 use Rattle.outline.specs.Spell.{A, B, C, O, I, env4, TurnE, DotE}
 
 module _ (d : List ℤ) (s : Simple d) where
@@ -41,14 +41,10 @@ module _ (d : List ℤ) (s : Simple d) where
   on-clear : (x y z : ℕ) → z < corners d → Clear d x y → ¬ (z ≡ x) → ¬ (z ≡ y) → ¬ On z x y
   on-clear x y z hz k zx zy o = go (ℕ-discrete (after d z) x) (ℕ-discrete (after d z) y)
     where
-      no-end : (w : ℕ) → ¬ (z ≡ w) → ¬ (after d z ≡ w) → ¬ EndsAt d z w
-      no-end w f g (inl e) = f e
-      no-end w f g (inr e) = g e
-
       go : Dec (after d z ≡ x) → Dec (after d z ≡ y) → ⊥
       go (yes e) t = apart z x hz e (only-same (corner d (after d z)) o (k .ends-at-i z hz (inr e)))
       go (no f) (yes e) = apart z y hz e (only-same (corner d (after d z)) o (k .ends-at-j z hz (inr e)))
-      go (no f) (no g) = k .others z hz (no-end x zx f) (no-end y zy g) (on-shared o (corner d (after d z)))
+      go (no f) (no g) = k .others z hz (no-end d zx f) (no-end d zy g) (on-shared o (corner d (after d z)))
 
   pub none-between : (x y z : ℕ) → x < corners d → y < corners d → z < corners d → ¬ (x ≡ y) → Sees d x y →
       ¬ (z ≡ x) → ¬ (z ≡ y) → ¬ On z x y

@@ -1,185 +1,101 @@
--- The parity at a point on a side, between its ends, is one value for the whole side. Assumes nothing.
+-- The parity is one value at all points of a side strictly between its ends, and on any segment that no side meets
+-- between its ends; half way tells it. With the side's direction that is the value just left of the side.
 use mathlib.Core.Path.{_≡_, refl, sym, _∙_, ap, ap₂, subst, fun-ext}
-use mathlib.Core.Bool.{Bool, true, false, not}
+use mathlib.Core.Bool.{Bool, false}
 use mathlib.Core.Logic.{_⊎_, inl, inr}
-use mathlib.Core.List.{List, [], _∷_}
-use Prim.Native.Nat.{ℕ, zero, suc, _<_, _≤_}
+use mathlib.Core.List.{[], _∷_}
+use Prim.Native.Nat.{ℕ, suc, _<_}
 use native.Mathlib.Decide.{ℕ-discrete}
-use lib.IntN.{ℤ, pos, negℤ, _+ℤ_, _-ℤ_, _*ℤ_}
-use lib.Signed.{_≤ℤ_, _<ℤ_, <ℤ-irrefl}
-use Rattle.whole.specs.Ring.{E, v, con, _:+_, _:-_, _:*_, neg, ring, ring1, ring2, by-ring}
-use Rattle.whole.specs.Order.{Nonneg, Positive, nonneg-pos, positive-pos, nonneg-add, nonneg-mul, positive-nonneg, positive-add, positive-mul, positive-pred, zero-cancel, le-sub, sub-le}
-use Rattle.outline.specs.Drawing.{Point, Shared}
-use Rattle.outline.specs.Parity.{_⊕_, pt, turn, odd, out, large}
-use Rattle.outline.specs.ParityRound.{odd-scale, ⊕-zero}
-use Rattle.outline.specs.Stretch.{len2, from-zero}
+use lib.IntN.{ℤ, pos, _-ℤ_, _*ℤ_, *ℤ-comm}
+use Rattle.whole.specs.Laws.{*ℤ-assoc}
+use Rattle.whole.specs.Ring.{v, _:-_, ring}
+use Rattle.whole.specs.Order.{Positive, positive-pos, positive-mul}
+use Rattle.outline.specs.Drawing.{Point}
+use Rattle.outline.specs.Spell.{O}
+use Rattle.outline.specs.Odd.{_⊕_}
+use Rattle.outline.specs.Parity.{pt, odd, out, large}
+use Rattle.outline.specs.Scale.{len-scale, odd-scale}
+use Rattle.outline.specs.Xor.{⊕-zero}
 use Rattle.outline.specs.EveryPoint.{Simple, sum2}
-use Rattle.outline.specs.Change.{Changes, apart-changes, line-changes, none-changes, Inner, rise, px}
+use Rattle.outline.specs.Compare.{plus-off}
+use Rattle.outline.specs.Inner.{Inner, inner-line, inner-grown, inner-half}
+use Rattle.outline.specs.Rising.{rise}
+use Rattle.outline.specs.SideChanges.{Changes, apart-changes, line-changes}
+use Rattle.outline.specs.AllChanges.{none-changes}
+use Rattle.outline.specs.Met.{Met, met}
 
-abbrev nil : E
-nil = con (pos 0)
+-- ---- a drawing k times as large, of one l times as large
+out-out : (k l : ℤ) (z : Point) → out k (out l z) ≡ out (k *ℤ l) z
+out-out k l z = ap₂ pt (sym (*ℤ-assoc k l (z .x))) (sym (*ℤ-assoc k l (z .y)))
 
-pub inner-line : {Q a b : Point} → Inner Q a b → turn a b Q ≡ pos 0
-inner-line {Q} {a} {b} i = zero-cancel (positive-add (i .k+) (positive-nonneg (i .m+)))
-    (ring2 (Q .x ∷ Q .y ∷ a .x ∷ a .y ∷ b .x ∷ b .y ∷ i .k ∷ i .m ∷ []) ((v 6 :+ v 7) :* px (v 2) (v 3) (v 4) (v 5) (v 0) (v 1)) nil
-    (v 5 :- v 3) (v 6 :* (v 2 :- v 0) :+ v 7 :* (v 4 :- v 0)) nil (neg (v 4 :- v 2)) (v 6 :* (v 3 :- v 1) :+ v 7 :* (v 5 :- v 1)) nil (i .mean-x) (i .mean-y) refl)
+odd-out : (c : ℕ → Point) (n : ℕ) (k l : ℤ) (q : Point) → Positive k →
+    odd (large (k *ℤ l) c) (out k q) n ≡ odd (large l c) q n
+odd-out c n k l q k+ =
+    ap (λ d. odd d (out k q) n) (sym (fun-ext (λ m. out-out k l (c m)))) ∙ odd-scale (large l c) k q k+ n
 
--- ---- a side that meets the segment between two such points meets the side between its ends
-pub record Met (a b e f : Point) : Type 0 where
-  pub s : Shared a b e f
-  pub p-low : Positive (s .p)
-  pub p-high : Positive (s .r -ℤ s .p)
+inner-out : (k l : ℤ) (q a b : Point) → Inner q (out l a) (out l b) → Inner (out k q) (out (k *ℤ l) a) (out (k *ℤ l) b)
+inner-out k l q a b i =
+    subst (λ z. Inner (out k q) z (out (k *ℤ l) b)) (out-out k l a)
+    (subst (λ z. Inner (out k q) (out k (out l a)) z) (out-out k l b) (inner-grown k q (out l a) (out l b) i))
 
-module _ (K : ℤ) (K+ : Positive K) (a b e f U W : Point) (i : Inner U (out K a) (out K b)) (j : Inner W (out K a) (out K b)) (s : Shared U W (out K e) (out K f)) where
-  -- k m of U, k m of W, p q r, K are 0 to 7; on one axis U W a b e f are 8 to 13
-  abbrev ρ : ℤ → ℤ → ℤ → ℤ → ℤ → ℤ → List ℤ
-  ρ u w a b e f = i .k ∷ i .m ∷ j .k ∷ j .m ∷ s .p ∷ s .q ∷ s .r ∷ K ∷ u ∷ w ∷ a ∷ b ∷ e ∷ f ∷ []
-
-  abbrev ρ0 : List ℤ
-  ρ0 = i .k ∷ i .m ∷ j .k ∷ j .m ∷ s .p ∷ s .q ∷ s .r ∷ []
-
-  abbrev S1 : E
-  S1 = v 0 :+ v 1
-
-  abbrev S2 : E
-  S2 = v 2 :+ v 3
-
-  abbrev PE : E
-  PE = (v 6 :- v 4) :* (v 1 :* S2) :+ v 4 :* (v 3 :* S1)
-
-  abbrev RE : E
-  RE = v 6 :* (S1 :* S2)
-
-  abbrev QE : E
-  QE = v 5 :* (S1 :* S2)
-
-  abbrev s1 : ℤ
-  s1 = i .k +ℤ i .m
-
-  abbrev s2 : ℤ
-  s2 = j .k +ℤ j .m
-
-  s1+ : Positive (i .k +ℤ i .m)
-  s1+ = positive-add (i .k+) (positive-nonneg (i .m+))
-
-  s2+ : Positive (j .k +ℤ j .m)
-  s2+ = positive-add (j .k+) (positive-nonneg (j .m+))
-
-  axis : (u w a b e f : ℤ) → i .k *ℤ (K *ℤ a -ℤ u) +ℤ i .m *ℤ (K *ℤ b -ℤ u) ≡ pos 0 → j .k *ℤ (K *ℤ a -ℤ w) +ℤ j .m *ℤ (K *ℤ b -ℤ w) ≡ pos 0 →
-      s .r *ℤ u +ℤ s .p *ℤ (w -ℤ u) ≡ s .r *ℤ (K *ℤ e) +ℤ s .q *ℤ (K *ℤ f -ℤ K *ℤ e) →
-      s .r *ℤ (s1 *ℤ s2) *ℤ a +ℤ ((s .r -ℤ s .p) *ℤ (i .m *ℤ s2) +ℤ s .p *ℤ (j .m *ℤ s1)) *ℤ (b -ℤ a) ≡ s .r *ℤ (s1 *ℤ s2) *ℤ e +ℤ s .q *ℤ (s1 *ℤ s2) *ℤ (f -ℤ e)
-  axis u w a b e f hu hw hs = from-zero _ _ (zero-cancel K+
-      (ring2 (ρ u w a b e f) (v 7 :* (RE :* v 10 :+ PE :* (v 11 :- v 10) :- (RE :* v 12 :+ QE :* (v 13 :- v 12)))) (S1 :* S2 :* (v 6 :* v 8 :+ v 4 :* (v 9 :- v 8) :- (v 6 :* (v 7 :* v 12) :+ v 5 :* (v 7 :* v 13 :- v 7 :* v 12))))
-      ((v 6 :- v 4) :* S2) (v 0 :* (v 7 :* v 10 :- v 8) :+ v 1 :* (v 7 :* v 11 :- v 8)) nil (v 4 :* S1) (v 2 :* (v 7 :* v 10 :- v 9) :+ v 3 :* (v 7 :* v 11 :- v 9)) nil hu hw refl
-      ∙ ring1 (ρ u w a b e f) (S1 :* S2 :* (v 6 :* v 8 :+ v 4 :* (v 9 :- v 8) :- (v 6 :* (v 7 :* v 12) :+ v 5 :* (v 7 :* v 13 :- v 7 :* v 12)))) nil (S1 :* S2) (v 6 :* v 8 :+ v 4 :* (v 9 :- v 8)) (v 6 :* (v 7 :* v 12) :+ v 5 :* (v 7 :* v 13 :- v 7 :* v 12)) hs refl))
-
-  low : Positive ((s .r -ℤ s .p) *ℤ (i .m *ℤ s2) +ℤ s .p *ℤ (j .m *ℤ s1))
-  low = by-ring ρ0 Positive (v 6 :+ ((v 6 :- v 4) :* (v 1 :* S2 :- con (pos 1)) :+ v 4 :* (v 3 :* S1 :- con (pos 1)))) PE refl
-      (positive-add (s .r-above) (nonneg-add (nonneg-mul (le-sub (s .p-to)) (positive-pred (positive-mul (i .m+) s2+))) (nonneg-mul (s .p-from) (positive-pred (positive-mul (j .m+) s1+)))))
-
-  high : Positive (s .r *ℤ (s1 *ℤ s2) -ℤ ((s .r -ℤ s .p) *ℤ (i .m *ℤ s2) +ℤ s .p *ℤ (j .m *ℤ s1)))
-  high = by-ring ρ0 Positive (v 6 :+ ((v 6 :- v 4) :* (v 0 :* S2 :- con (pos 1)) :+ v 4 :* (v 2 :* S1 :- con (pos 1)))) (RE :- PE) refl
-      (positive-add (s .r-above) (nonneg-add (nonneg-mul (le-sub (s .p-to)) (positive-pred (positive-mul (i .k+) s2+))) (nonneg-mul (s .p-from) (positive-pred (positive-mul (j .k+) s1+)))))
-
-  pub met : Met a b e f
-  met = record {
-    s = record {
-      p = (s .r -ℤ s .p) *ℤ (i .m *ℤ s2) +ℤ s .p *ℤ (j .m *ℤ s1);
-      q = s .q *ℤ (s1 *ℤ s2);
-      r = s .r *ℤ (s1 *ℤ s2);
-      r-above = positive-mul (s .r-above) (positive-mul s1+ s2+);
-      p-from = positive-nonneg low;
-      p-to = sub-le (positive-nonneg high);
-      q-from = nonneg-mul (s .q-from) (positive-nonneg (positive-mul s1+ s2+));
-      q-to = sub-le (by-ring ρ0 Nonneg ((v 6 :- v 5) :* (S1 :* S2)) (RE :- QE) refl (nonneg-mul (le-sub (s .q-to)) (positive-nonneg (positive-mul s1+ s2+))));
-      same-x = axis (U .x) (W .x) (a .x) (b .x) (e .x) (f .x) (i .mean-x) (j .mean-x) (s .same-x);
-      same-y = axis (U .y) (W .y) (a .y) (b .y) (e .y) (f .y) (i .mean-y) (j .mean-y) (s .same-y);
-    };
-    p-low = low;
-    p-high = high;
-  }
-
-pub grown-length : (K : ℤ) (a b : Point) → Positive K → Positive (len2 a b) → Positive (len2 (out K a) (out K b))
-grown-length K a b K+ h = by-ring (K ∷ a .x ∷ a .y ∷ b .x ∷ b .y ∷ []) Positive (v 0 :* (v 0 :* ((v 3 :- v 1) :* (v 3 :- v 1) :+ (v 4 :- v 2) :* (v 4 :- v 2))))
-    ((v 0 :* v 3 :- v 0 :* v 1) :* (v 0 :* v 3 :- v 0 :* v 1) :+ (v 0 :* v 4 :- v 0 :* v 2) :* (v 0 :* v 4 :- v 0 :* v 2)) refl (positive-mul K+ (positive-mul K+ h))
-
-pub inner-grown : (K : ℤ) (Q a b : Point) → Inner Q a b → Inner (out K Q) (out K a) (out K b)
-inner-grown K Q a b i = record {
-  k = i .k; m = i .m; k+ = i .k+; m+ = i .m+;
-  mean-x = ax (Q .x) (a .x) (b .x) (i .mean-x);
-  mean-y = ax (Q .y) (a .y) (b .y) (i .mean-y);
-}
-  where
-    ax : (q a b : ℤ) → i .k *ℤ (a -ℤ q) +ℤ i .m *ℤ (b -ℤ q) ≡ pos 0 → i .k *ℤ (K *ℤ a -ℤ K *ℤ q) +ℤ i .m *ℤ (K *ℤ b -ℤ K *ℤ q) ≡ pos 0
-    ax q a b e = ring1 (i .k ∷ i .m ∷ K ∷ q ∷ a ∷ b ∷ []) (v 0 :* (v 2 :* v 4 :- v 2 :* v 3) :+ v 1 :* (v 2 :* v 5 :- v 2 :* v 3)) nil (v 2) (v 0 :* (v 4 :- v 3) :+ v 1 :* (v 5 :- v 3)) nil e refl
-
--- half way, in a drawing twice as large
-pub inner-half : (a b : Point) → Inner (sum2 a b) (out (pos 2) a) (out (pos 2) b)
-inner-half a b = record {
-  k = pos 1; m = pos 1; k+ = positive-pos 0; m+ = positive-pos 0;
-  mean-x = ax (a .x) (b .x);
-  mean-y = ax (a .y) (b .y);
-}
-  where
-    ax : (a b : ℤ) → pos 1 *ℤ (pos 2 *ℤ a -ℤ (a +ℤ b)) +ℤ pos 1 *ℤ (pos 2 *ℤ b -ℤ (a +ℤ b)) ≡ pos 0
-    ax a b = ring (a ∷ b ∷ []) (con (pos 1) :* (con (pos 2) :* v 0 :- (v 0 :+ v 1)) :+ con (pos 1) :* (con (pos 2) :* v 1 :- (v 0 :+ v 1))) nil refl
-
--- ---- a segment ab on which the parity does not change between its ends
+-- ---- a segment ab on which no side changes the parity between the ends
 abbrev pub Steady : (ℕ → Point) → ℕ → Point → Point → Type 0
-Steady c n a b = (K : ℤ) → Positive K → (U W : Point) → Inner U (out K a) (out K b) → Inner W (out K a) (out K b) → (m : ℕ) → m < n → Changes U W (out K (c m)) (out K (c (suc m))) false
+Steady c n a b =
+    (K : ℤ) → Positive K → (u w : Point) → Inner u (out K a) (out K b) → Inner w (out K a) (out K b) →
+    (m : ℕ) → m < n → Changes u w (out K (c m)) (out K (c (suc m))) false
 
-module _ (c : ℕ → Point) (n : ℕ) (closed : c n ≡ c 0) (a b : Point) (steady : Steady c n a b) where
-  same-value : (K : ℤ) → Positive K → (U W : Point) → Inner U (out K a) (out K b) → Inner W (out K a) (out K b) → odd (large K c) U n ≡ odd (large K c) W n
-  same-value K K+ U W i j = ⊕-zero (none-changes (large K c) n (ap (out K) closed) U W (λ m h. steady K K+ U W i j m h))
+-- the parity half way
+abbrev pub half-value : (ℕ → Point) → ℕ → Point → Point → Bool
+half-value c n a b = odd (large (pos 2) c) (sum2 a b) n
 
-  -- its value, half way
-  pub steady-value : (K : ℤ) → Positive K → (Q : Point) → Inner Q (out K a) (out K b) → odd (large K c) Q n ≡ odd (large (pos 2) c) (sum2 a b) n
-  steady-value K K+ Q i =
-      sym (odd-scale (large K c) (pos 2) Q (positive-pos 1) n)
-      ∙ ap (λ d. odd d (out (pos 2) Q) n) (fun-ext (λ m. at (c m)))
-      ∙ same-value (pos 2 *ℤ K) (positive-mul (positive-pos 1) K+) (out (pos 2) Q) (out K (sum2 a b))
-          (subst (λ a. Inner (out (pos 2) Q) a (out (pos 2 *ℤ K) b)) (at a) (subst (λ b. Inner (out (pos 2) Q) (out (pos 2) (out K a)) b) (at b) (inner-grown (pos 2) Q (out K a) (out K b) i)))
-          (subst (λ a. Inner (out K half) a (out (pos 2 *ℤ K) b)) (at′ a) (subst (λ b. Inner (out K half) (out K (out (pos 2) a)) b) (at′ b) (inner-grown K half (out (pos 2) a) (out (pos 2) b) (inner-half a b))))
-      ∙ ap (λ d. odd d (out K (sum2 a b)) n) (sym (fun-ext (λ m. at′ (c m))))
-      ∙ odd-scale (large (pos 2) c) K (sum2 a b) K+ n
-    where
-      half : Point
-      half = sum2 a b
+pub steady-value : (c : ℕ → Point) (n : ℕ) → c n ≡ c 0 → (a b : Point) → Steady c n a b → (K : ℤ) → Positive K →
+    (q : Point) → Inner q (out K a) (out K b) → odd (large K c) q n ≡ half-value c n a b
+steady-value c n closed a b steady K K+ q i =
+    sym (odd-out c n (pos 2) K q (positive-pos 1))
+    ∙ ⊕-zero (none-changes (large (pos 2 *ℤ K) c) n (ap (out (pos 2 *ℤ K)) closed) (out (pos 2) q) (out K (sum2 a b))
+    (steady (pos 2 *ℤ K) (positive-mul (positive-pos 1) K+) (out (pos 2) q) (out K (sum2 a b))
+    (inner-out (pos 2) K q a b i)
+    (subst (λ k. Inner (out K (sum2 a b)) (out k a) (out k b)) (*ℤ-comm K (pos 2))
+    (inner-out K (pos 2) (sum2 a b) a b (inner-half a b)))))
+    ∙ ap (λ k. odd (large k c) (out K (sum2 a b)) n) (*ℤ-comm (pos 2) K) ∙ odd-out c n K (pos 2) (sum2 a b) K+
 
-      at : (z : Point) → out (pos 2) (out K z) ≡ out (pos 2 *ℤ K) z
-      at z = ap₂ pt (ring (K ∷ z .x ∷ []) (con (pos 2) :* (v 0 :* v 1)) (con (pos 2) :* v 0 :* v 1) refl) (ring (K ∷ z .y ∷ []) (con (pos 2) :* (v 0 :* v 1)) (con (pos 2) :* v 0 :* v 1) refl)
+-- no side meets it there
+pub clear-steady : (c : ℕ → Point) (n : ℕ) (a b : Point) → ((m : ℕ) → m < n → ¬ Met a b (c m) (c (suc m))) →
+    Steady c n a b
+clear-steady c n a b clear K K+ u w i j m h =
+    apart-changes u w (out K (c m)) (out K (c (suc m))) (λ s. clear m h (met K K+ a b (c m) (c (suc m)) u w i j s))
 
-      at′ : (z : Point) → out K (out (pos 2) z) ≡ out (pos 2 *ℤ K) z
-      at′ z = ap₂ pt (ring (K ∷ z .x ∷ []) (v 0 :* (con (pos 2) :* v 1)) (con (pos 2) :* v 0 :* v 1) refl) (ring (K ∷ z .y ∷ []) (v 0 :* (con (pos 2) :* v 1)) (con (pos 2) :* v 0 :* v 1) refl)
-
--- a segment that no side meets between its ends
-pub clear-steady : (c : ℕ → Point) (n : ℕ) (a b : Point) → ((m : ℕ) → m < n → Met a b (c m) (c (suc m)) → ⊥) → Steady c n a b
-clear-steady c n a b clear K K+ U W i j m h = apart-changes U W (out K (c m)) (out K (c (suc m))) (λ s. clear m h (met K K+ a b (c m) (c (suc m)) U W i j s))
-
--- ---- a side
-module _ (c : ℕ → Point) (n : ℕ) (closed : c n ≡ c 0) (simple : Simple c n) where
-  pub no-end : (k m : ℕ) → k < n → m < n → (m ≡ k → ⊥) → Met (c k) (c (suc k)) (c m) (c (suc m)) → ⊥
-  no-end k m hk hm ne t = go (simple .apart k m hk hm (λ e. ne (sym e)) (t .s))
-    where
-      go : (t .s .p ≡ pos 0) ⊎ (t .s .p ≡ t .s .r) → ⊥
-      go (inl e) = <ℤ-irrefl (subst Positive e (t .p-low))
-      go (inr e) = <ℤ-irrefl (subst Positive (ap (λ z. t .s .r -ℤ z) e ∙ ring (t .s .r ∷ []) (v 0 :- v 0) nil refl) (t .p-high))
-
-  side-steady : (k : ℕ) → k < n → Steady c n (c k) (c (suc k))
-  side-steady k hk K K+ U W i j m hm = go (ℕ-discrete m k)
-    where
-      go : Dec (m ≡ k) → Changes U W (out K (c m)) (out K (c (suc m))) false
-      go (yes e) = subst (λ l. Changes U W (out K (c l)) (out K (c (suc l))) false) (sym e)
-          (line-changes U W (out K (c k)) (out K (c (suc k))) (grown-length K (c k) (c (suc k)) K+ (simple .ends k hk)) (inner-line i) (inner-line j))
-      go (no e) = apart-changes U W (out K (c m)) (out K (c (suc m))) (λ s. no-end k m hk hm e (met K K+ (c k) (c (suc k)) (c m) (c (suc m)) U W i j s))
-
-  -- the value of side k
+-- ---- the sides of a closed outline
+module _ (c : ℕ → Point) (n : ℕ) where
+  -- the parity on side k
   abbrev pub value : ℕ → Bool
-  value k = odd (large (pos 2) c) (sum2 (c k) (c (suc k))) n
+  value k = half-value c n (c k) (c (suc k))
 
-  pub value-of : (K : ℤ) → Positive K → (k : ℕ) → k < n → (Q : Point) → Inner Q (out K (c k)) (out K (c (suc k))) → odd (large K c) Q n ≡ value k
-  value-of K K+ k hk Q i = steady-value c n closed (c k) (c (suc k)) (side-steady k hk) K K+ Q i
-
-  -- the value left of side k
+  -- left of side k
   abbrev pub left : ℕ → Bool
   left k = value k ⊕ rise (c k) (c (suc k))
+
+  module _ (closed : c n ≡ c 0) (simple : Simple c n) where
+    -- no other side meets side k between its ends
+    pub side-unmet : (k m : ℕ) → k < n → m < n → ¬ (m ≡ k) → ¬ Met (c k) (c (suc k)) (c m) (c (suc m))
+    side-unmet k m hk hm ne t = go (simple .apart k m hk hm (λ e. ne (sym e)) (t .s))
+      where
+        go : (t .s .p ≡ pos 0) ⊎ (t .s .p ≡ t .s .r) → ⊥
+        go (inl e) = plus-off (t .p-low) e
+        go (inr e) = plus-off (t .p-high) (ap (λ z. t .s .r -ℤ z) e ∙ ring (t .s .r ∷ []) (v 0 :- v 0) O refl)
+
+    side-steady : (k : ℕ) → k < n → Steady c n (c k) (c (suc k))
+    side-steady k hk K K+ u w i j m hm = go (ℕ-discrete m k)
+      where
+        go : Dec (m ≡ k) → Changes u w (out K (c m)) (out K (c (suc m))) false
+        go (yes e) =
+            subst (λ l. Changes u w (out K (c l)) (out K (c (suc l))) false) (sym e)
+            (line-changes u w (out K (c k)) (out K (c (suc k)))
+            (len-scale K (c k) (c (suc k)) K+ (simple .ends k hk)) (inner-line i) (inner-line j))
+        go (no e) =
+            apart-changes u w (out K (c m)) (out K (c (suc m)))
+            (λ s. side-unmet k m hk hm e (met K K+ (c k) (c (suc k)) (c m) (c (suc m)) u w i j s))
+
+    pub value-of : (K : ℤ) → Positive K → (k : ℕ) → k < n → (q : Point) → Inner q (out K (c k)) (out K (c (suc k))) →
+        odd (large K c) q n ≡ value k
+    value-of K K+ k hk q i = steady-value c n closed (c k) (c (suc k)) (side-steady k hk) K K+ q i

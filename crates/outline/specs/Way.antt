@@ -1,4 +1,9 @@
--- What a look along the segment from corner i to corner j finds, side by side.
+-- What a look along the segment from corner i to corner j finds: side k goes across it, or a third corner k lies on
+-- it, or it is free of both.
+--
+--          /                k
+--    i ---/--- j      i ---/ \--- j
+--        / side k         /   \
 use mathlib.Core.Path.{_≡_}
 use mathlib.Core.Logic.{_⊎_}
 use mathlib.Core.List.{List}
@@ -6,22 +11,25 @@ use Prim.Native.Nat.{ℕ, _<_}
 use lib.IntN.{ℤ}
 use Rattle.outline.specs.Drawing.{corner, corners, after}
 use Rattle.outline.specs.Placed.{On}
-use Rattle.outline.specs.Stretch.{Crosses}
+use Rattle.outline.specs.Crossing.{Crosses}
 
 module _ (d : List ℤ) (i j : ℕ) where
   -- side k crosses the segment
   abbrev pub CrossedBy : ℕ → Type 0
   CrossedBy k = Crosses (corner d i) (corner d j) (corner d k) (corner d (after d k))
 
-  -- a third corner lies on it
+  -- corner k, a third one, lies on it
   pub record GrazedBy (k : ℕ) : Type 0 where
     pub below : k < corners d
     pub not-i : ¬ (k ≡ i)
     pub not-j : ¬ (k ≡ j)
     pub on : On (corner d k) (corner d i) (corner d j)
 
-  -- side k does not cross it, and corner k does not graze it
+  -- neither side k nor corner k stands in the way
   pub record FreeOf (k : ℕ) : Type 0 where
     pub uncrossed : ¬ CrossedBy k
     pub no-third : On (corner d k) (corner d i) (corner d j) → (k ≡ i) ⊎ (k ≡ j)
 
+  -- nothing does
+  abbrev pub Free : Type 0
+  Free = (k : ℕ) → k < corners d → FreeOf k

@@ -135,13 +135,20 @@ pub positive-not : {X : Type 0} {z : ℤ} → Positive z → Nonneg (negℤ z) �
 positive-not {z} h k =
     absurd (<ℤ-irrefl (by-ring (z ∷ []) Positive (v 0 :+ neg (v 0)) (con (pos 0)) refl (positive-add h k)))
 
-pub nonneg-zero : {z : ℤ} → Nonneg z → Nonneg (negℤ z) → z ≡ pos 0
-nonneg-zero {z} h k = go (sign z)
+pub positive-or : {z : ℤ} → Nonneg z → Positive z ⊎ (z ≡ pos 0)
+positive-or {z} h = go (sign z)
   where
-    go : Sign z → z ≡ pos 0
-    go (plus p) = positive-not p k
-    go (nought e) = e
+    go : Sign z → Positive z ⊎ (z ≡ pos 0)
+    go (plus p) = inl p
+    go (nought e) = inr e
     go (minus p) = positive-not p (by-ring (z ∷ []) Nonneg (v 0) (neg (neg (v 0))) refl h)
+
+pub nonneg-zero : {z : ℤ} → Nonneg z → Nonneg (negℤ z) → z ≡ pos 0
+nonneg-zero {z} h k = go (positive-or h)
+  where
+    go : Positive z ⊎ (z ≡ pos 0) → z ≡ pos 0
+    go (inl p) = positive-not p k
+    go (inr e) = e
 
 -- a product of equal factors
 pub square-nonneg : (z : ℤ) → Nonneg (z *ℤ z)
@@ -174,11 +181,28 @@ pub ≤ℤ-total : (a b : ℤ) → (a ≤ℤ b) ⊎ (b <ℤ a)
     go true e = inr (ltZ-yes (subst T (sym e) tt))
     go false e = inl (ltZ-no (subst (λ t. T (not t)) (sym e) tt))
 
+pub not-less : {a b : ℤ} → ¬ (b <ℤ a) → a ≤ℤ b
+not-less {a} {b} n = go (≤ℤ-total a b)
+  where
+    go : (a ≤ℤ b) ⊎ (b <ℤ a) → a ≤ℤ b
+    go (inl h) = h
+    go (inr h) = absurd (n h)
+
+-- two numbers with no difference are one number
+pub diff-zero : (a b : ℤ) → a -ℤ b ≡ pos 0 → a ≡ b
+diff-zero a b e = ring (a ∷ b ∷ []) (v 0) (v 1 :+ (v 0 :- v 1)) refl ∙ ap (λ z. b +ℤ z) e ∙ +ℤ-idr b
+
 pub ≤ℤ-antisym : {a b : ℤ} → a ≤ℤ b → b ≤ℤ a → a ≡ b
 ≤ℤ-antisym {a} {b} h k =
-    let d : b -ℤ a ≡ pos 0 =
-    nonneg-zero (le-sub h) (by-ring (a ∷ b ∷ []) Nonneg (v 0 :- v 1) (neg (v 1 :- v 0)) refl (le-sub k)) in
-    ring (a ∷ b ∷ []) (v 0) (v 1 :- (v 1 :- v 0)) refl ∙ ap (λ z. b -ℤ z) d ∙ +ℤ-idr b
+    diff-zero a b
+    (nonneg-zero (le-sub k) (by-ring (a ∷ b ∷ []) Nonneg (v 1 :- v 0) (neg (v 0 :- v 1)) refl (le-sub h)))
+
+pub ≤ℤ-strict : {a b : ℤ} → a ≤ℤ b → ¬ (a ≡ b) → a <ℤ b
+≤ℤ-strict {a} {b} h n = go (≤ℤ-total b a)
+  where
+    go : (b ≤ℤ a) ⊎ (a <ℤ b) → a <ℤ b
+    go (inl k) = absurd (n (≤ℤ-antisym h k))
+    go (inr k) = k
 
 pub +ℤ-mono : {a b c d : ℤ} → a ≤ℤ b → c ≤ℤ d → (a +ℤ c) ≤ℤ (b +ℤ d)
 +ℤ-mono {a} {b} {c} {d} h k =
