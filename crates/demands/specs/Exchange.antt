@@ -32,8 +32,14 @@ alike-exchanged : (first second : List ℤ) → Alike first second → Alike sec
 alike-exchanged first second a = omega arith
 
 sight-exchanged : (first second : List ℤ) → Alike first second → SameSight first second second first
-sight-exchanged first second a =
-    record { many = omega arith; seen = λ x y h g. (λ s. (s .1, s .0), λ s. (s .1, s .0)) }
+sight-exchanged first second a = record {
+  many = omega arith;
+  cuts = λ x y h g. (
+    λ s. ((s .0 .1, s .0 .0), (s .1 .1, s .1 .0)),
+    λ s. ((s .0 .1, s .0 .0), (s .1 .1, s .1 .0)),
+  );
+  seen = λ x y h g. (λ s. (s .1, s .0), λ s. (s .1, s .0));
+}
 
 sound-judged : (d d′ : List ℤ) → Sound d → Sound d′ → SameJudged d d′
 sound-judged d d′ s s′ = record {

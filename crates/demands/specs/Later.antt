@@ -5,7 +5,7 @@ use mathlib.Core.Path.{_≡_, refl, sym, _∙_, ap, subst, subst₂}
 use mathlib.Core.Bool.{Bool, true, false, not, _&&_, _||_}
 use mathlib.Core.Logic.{inl, inr, ⊎-elim}
 use mathlib.Core.List.{List, [], _∷_, flatMap}
-use Prim.Native.Nat.{ℕ, suc, _≤_}
+use Prim.Native.Nat.{ℕ, suc}
 use native.Mathlib.Omega.{arith}
 use lib.Dec.{T, eqb, eqb→eq, ltb}
 use lib.Ieee.Fits.{and-l, and-r}
@@ -13,8 +13,9 @@ use lib.IntN.{ℤ}
 use lib.ListN.{length}
 use Rattle.outline.specs.Tells.{Tells, as-well, itself, never, and-tells, or-tells, not-tells, eq-tells, lower-tells}
 use Rattle.outline.specs.Outlines.{Z, H}
-use Rattle.limits.specs.Limits.{fewest-corners}
+use Rattle.outline.specs.Mirror.{sound-test, sound-tells}
 use Rattle.outline.specs.Drawing.{corners}
+use Rattle.pair.specs.Passing.{SoundPair}
 use Rattle.rules.specs.Lists.{In}
 use Rattle.rules.specs.Cutting.{Pairs, Inner, Uncrossed, Tree, leaf, link, tree, told, pieces, flat, run, Less, one}
 use Rattle.rules.specs.Trees.{Node}
@@ -92,12 +93,26 @@ in-sure t (u ∷ l) h = go (same-tree t u) (tree-same t u) h (in-sure t l)
     go false e h f = inr (f h)
 
 -- the run of the cutting that is given is the computed one's
-given-run : (first second : List ℤ) → fewest-corners ≤ corners first → Node (smallest first second) → (C : Pairs) →
+given-run : (first second : List ℤ) → SoundPair first second → Node (smallest first second) → (C : Pairs) →
     FirstCutting first second C → run (corners first) C ≡ flat (told 0 (smallest first second))
-given-run first second enough k C f =
-    let p = smallest-first first second enough k in
+given-run first second sound k C f =
+    let p = smallest-first first second sound k in
     let q = plan first second in
     ap flat (first-unique (q .cut) (q .piece) one (corners first) C (uses 0 (smallest first second)) f (p .0) ∙ p .1)
+
+-- two drawings that are sound, by their tests
+abbrev sound-pair-test : List ℤ → List ℤ → Bool
+sound-pair-test first second = eqb (length second) (length first) && (sound-test first && sound-test second)
+
+sound-seen : (first second : List ℤ) → T (sound-pair-test first second) → SoundPair first second
+sound-seen first second h =
+    let p = and-tells (eq-tells _ _) (and-tells (sound-tells first) (sound-tells second)) .sure h in
+    let s = p .1 .0 .shaped in
+    record {
+      alike = record { even = s .even; same = p .0; enough = s .enough; few = s .few };
+      first-sound = p .1 .0;
+      second-sound = p .1 .1;
+    }
 
 -- ---- the three cuts
 -- alone it is a valid cutting of Z and H, of two pieces, and its run comes after the run of the cutting that is given
@@ -116,6 +131,9 @@ later-test c =
     && (in-test (tree 6 C) (listed Z H)
     && (eqb (length (pieces 6 C)) 2 && less-test (flat (told 0 (smallest Z H))) (run 6 C)))
 
+z-h-sound : SoundPair Z H
+z-h-sound = sound-seen Z H tt
+
 z-h-node : Node (smallest Z H)
 unfolding flatMap
 z-h-node = tt
@@ -130,10 +148,10 @@ later-sure c h =
     let p = and-tells (inner-tells 6 a b) (and-tells trees (and-tells counts runs)) .sure h in
     record {
       valid =
-          listed-valid Z H (omega arith) (alone a b) (alone-uncrossed 6 a b (p .0)) (in-sure _ (listed Z H) (p .1 .0));
+          listed-valid Z H z-h-sound (alone a b) (alone-uncrossed 6 a b (p .0)) (in-sure _ (listed Z H) (p .1 .0));
       two-pieces = p .1 .1 .0;
       later =
-          λ C f. subst (λ r. Less r (run 6 (alone a b))) (sym (given-run Z H (omega arith) z-h-node C f)) (p .1 .1 .1);
+          λ C f. subst (λ r. Less r (run 6 (alone a b))) (sym (given-run Z H z-h-sound z-h-node C f)) (p .1 .1 .1);
     }
 
 pass : T (every later-test later-cuts)
@@ -159,6 +177,9 @@ first-told = foremost (listed fewest-first fewest-second)
 abbrev given-told : Tree
 given-told = smallest fewest-first fewest-second
 
+fewest-sound : SoundPair fewest-first fewest-second
+fewest-sound = sound-seen fewest-first fewest-second tt
+
 foremost-node : Node first-told
 unfolding flatMap
 foremost-node = tt
@@ -182,10 +203,10 @@ earlier-cutting = (uses 0 first-told, v .0, ap length (v .1) ∙ three-pieces, b
     v : ValidCutting fewest-first fewest-second (uses 0 first-told)
         × (pieces 7 (uses 0 first-told) ≡ told 0 first-told)
     v =
-        listed-told fewest-first fewest-second (omega arith) first-told
+        listed-told fewest-first fewest-second fewest-sound first-told
         (foremost-in (listed fewest-first fewest-second) foremost-node)
 
     before : (D : Pairs) → FirstCutting fewest-first fewest-second D → Less (run 7 (uses 0 first-told)) (run 7 D)
     before D f =
         subst₂ Less (sym (ap flat (v .1)))
-        (sym (given-run fewest-first fewest-second (omega arith) given-node D f)) told-before
+        (sym (given-run fewest-first fewest-second fewest-sound given-node D f)) told-before

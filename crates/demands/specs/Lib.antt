@@ -15,7 +15,7 @@ pub mod Sentences
 -- more room, or other bytes in the buffer: the same comes back
 pub mod Room
 -- ---- demand 2: what the statement is worth
--- the starred outlines of 01, one table
+-- the starred outlines of 01 and 02's rectangle, one table
 pub mod Outlines
 -- in its row Z, H: three cuts that are valid alone and come later
 pub mod Later
@@ -52,10 +52,22 @@ pub mod Mirror
 pub mod Partners
 -- a whole-number rule on points: shared points, turns, angles
 pub mod MovedPoints
--- and on drawings: simplicity, doubled area, sight
+-- and on drawings: simplicity, doubled area, sight by the strict rule
 pub mod Moved
+-- and on what lies in or on an outline: a quarter turn, by where a point lies against a side
+pub mod LeftOf
+pub mod QuarterTurn
+-- a rule that keeps heights in their order, and every rule
+pub mod LevelRule
+pub mod RuleKeepsIn
+-- outlines with the same corners
+pub mod SameOutline
+-- a whole-number rule on a centre's sight
+pub mod CentreMoved
 -- renumbering a drawing by one corner
 pub mod Turned
+-- and a centre's sight then
+pub mod CentreTurned
 -- and by any number of corners; once round gives the drawing back
 pub mod Renumbered
 -- and both drawings: valid cuttings stay valid and have no more pieces

@@ -1,8 +1,9 @@
--- The answer as antt computes it: the tests of `drawing` in the order of 01's table, then the first smallest cutting.
+-- The answer as antt computes it: the tests of `outline` in the order of 01's table, then the first smallest cutting.
 -- `mirror`: it is the answer, for all lists and all buffers. (The listing grows fast with the corners: antt computes
 -- it for small outlines.)
 use mathlib.Core.Path.{refl, sym, ap}
 use mathlib.Core.Bool.{Bool, _&&_}
+use mathlib.Core.Logic.{inl}
 use mathlib.Core.List.{List, [], _∷_, _++_}
 use Prim.Native.Nat.{ℕ, zero, suc, _+_, _*_}
 use native.Mathlib.Omega.{arith}
@@ -10,16 +11,18 @@ use lib.Dec.{eqb, leb}
 use lib.IntN.{ℤ}
 use lib.ListN.{length}
 use Rattle.limits.specs.Limits.{fewest-corners, most-corners}
-use Rattle.outline.specs.Drawing.{corners}
+use Rattle.outline.specs.Drawing.{corners, Shaped, Sound}
 use Rattle.outline.specs.Tells.{Tells, as-well, and-tells, eq-tells, most-tells}
 use Rattle.outline.specs.Mirror.{in-range-test, in-range-tells, simple-test, simple-tells, area-test, area-tells}
 use Rattle.pair.specs.Pair.{Alike, of-drawing}
+use Rattle.pair.specs.Passing.{first-shaped, second-shaped, sound-pair}
 use Rattle.rules.specs.Refusals.{Line, FirstFailed, all-hold}
 use Rattle.rules.specs.Cutting.{Tree, told}
 use Rattle.rules.specs.Uses.{uses}
 use Rattle.rules.specs.Lays.{lays}
 use Rattle.desk.specs.Answer.{asked}
 use Rattle.demands.specs.Program.{Program, Meets, Expected, cutting, refusal, writing, Gives}
+use Rattle.demands.specs.Lines.{earlier-hold}
 use Rattle.demands.specs.Checks.{Check, first-failed, Checked, end, then, failed-is}
 use Rattle.demands.specs.Smallest.{both-test, node-test, smallest}
 use Rattle.demands.specs.Smallest.{smallest-first, smallest-node, smallest-tells, smallest-layout}
@@ -40,9 +43,11 @@ alike-tells first second =
 abbrev drawing-checks : ℕ → ℕ → ℕ → List ℤ → List Check
 drawing-checks a b c d = (a, λ u. in-range-test d) ∷ (b, λ u. simple-test d) ∷ (c, λ u. area-test d) ∷ []
 
-drawing-tell : (a b c : ℕ) (d : List ℤ) {k : List Check} {l : List Line} → Checked k l →
+drawing-tell : (a b c : ℕ) (d : List ℤ) {k : List Check} {l : List Line} → Shaped d → (Sound d → Checked k l) →
     Checked (drawing-checks a b c d ++ k) (of-drawing a b c d ++ l)
-drawing-tell a b c d rest = then (in-range-tells d) (λ _. then (simple-tells d) (λ _. then (area-tells d) (λ _. rest)))
+drawing-tell a b c d s rest =
+    then (in-range-tells d) (λ r. then (simple-tells d) (λ p. then (area-tells d)
+    (λ q. rest (record { shaped = s; in-range = r; simple = p; anticlockwise = q }))))
 
 -- in the order of `asked`; t is the smallest cutting's tree
 abbrev checks : List ℤ → List ℤ → ℕ → Tree → List Check
@@ -55,8 +60,10 @@ checks-tell : (first second : List ℤ) (room : ℕ) →
     Checked (checks first second room (smallest first second)) (asked first second room)
 checks-tell first second room =
     then (alike-tells first second)
-    (λ a. then (most-tells _ _) (λ _. drawing-tell 3 4 5 first (drawing-tell 6 7 8 second
-    (then (smallest-tells first second (a .enough)) (λ _. end)))))
+    (λ a. then (most-tells _ _)
+    (λ _. drawing-tell 3 4 5 first (first-shaped a)
+    (λ s. drawing-tell 6 7 8 second (second-shaped a)
+    (λ t. then (smallest-tells first second (record { alike = a; first-sound = s; second-sound = t })) (λ _. end)))))
 
 -- ---- what comes back with a number
 abbrev comes : (ℕ → ℕ → Bool) → Tree → ℕ → Expected
@@ -73,9 +80,10 @@ module _ (first second : List ℤ) (before : List ℕ) where
       Gives first second before (comes (both-test first second) (smallest first second) k)
   comes-back zero f =
       let all = all-hold (asked first second (length before)) (omega arith) f in
-      let enough = all .0 .enough in
-      let k = smallest-node first second enough (all .1 .1 .1 .1 .1 .1 .1 .1 .0) in
-      let p = smallest-first first second enough k in
+      let h = earlier-hold first second (length before) 0 (inl refl) f .0 in
+      let sound = sound-pair first second (h .0, h .1 .1) in
+      let k = smallest-node first second sound (all .1 .1 .1 .1 .1 .1 .1 .1 .0) in
+      let p = smallest-first first second sound k in
       record {
         numbered = f;
         refused = λ lt. absurd (omega arith);
@@ -84,7 +92,7 @@ module _ (first second : List ℤ) (before : List ℕ) where
           is-first = p .0;
           carries = record {
             laid = lays (both-test first second) (told 0 (smallest first second));
-            layout = smallest-layout first second enough k;
+            layout = smallest-layout first second sound k;
             counted = ap length (sym (p .1));
             used = refl;
             written = refl;

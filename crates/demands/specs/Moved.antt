@@ -26,7 +26,7 @@ module _ (t : Rule) where
   pub corners-moved : (d : List ℤ) → corners (move t d) ≡ corners d
   corners-moved d = ap (λ m. m / 2) (length-moved d)
 
-  corner-moved : (d : List ℤ) (i : ℕ) → i < corners d → corner (move t d) i ≡ image t (corner d i)
+  pub corner-moved : (d : List ℤ) (i : ℕ) → i < corners d → corner (move t d) i ≡ image t (corner d i)
   corner-moved [] i h = absurd (omega arith)
   corner-moved (x ∷ []) i h = absurd (omega arith)
   corner-moved (x ∷ (y ∷ l)) zero h = refl

@@ -65,7 +65,7 @@ grown r e = record { x = r *ℤ e .x; y = r *ℤ e .y }
 
 module _ (t : Rule) (r : ℤ) where
   -- the rule for points r times as large
-  abbrev grown-rule : Rule
+  abbrev pub grown-rule : Rule
   grown-rule = record { a = t .a; b = t .b; c = t .c; d = t .d; e = r *ℤ t .e; f = r *ℤ t .f; above = t .above }
 
   -- it sends the point named to the point that p and r name between the images
@@ -83,7 +83,7 @@ module _ (t : Rule) (r : ℤ) where
       between : E → E → E
       between z w = v 6 :* z :+ v 7 :* (w :- z)
 
-  grown-moved : (e : Point) → grown r (image t e) ≡ image grown-rule (grown r e)
+  pub grown-moved : (e : Point) → grown r (image t e) ≡ image grown-rule (grown r e)
   grown-moved e = λ i. record {
     x = ring ρ (v 6 :* image-x (v 7) (v 8)) (v 0 :* (v 6 :* v 7) :+ v 1 :* (v 6 :* v 8) :+ v 6 :* v 4) refl i;
     y = ring ρ (v 6 :* image-y (v 7) (v 8)) (v 2 :* (v 6 :* v 7) :+ v 3 :* (v 6 :* v 8) :+ v 6 :* v 5) refl i;

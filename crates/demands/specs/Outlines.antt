@@ -1,5 +1,6 @@
--- The starred outlines of 01, "Outlines to try", as one table over the statement of the answer: one computed test of
--- all rows, and a theorem that turns it into what each row says.
+-- The starred outlines of 01, "Outlines to try", and 02's rectangle as one table over the statement of the answer: one
+-- computed test of all rows, and a theorem that turns it into what each row says. 02, K3: "01's starred answers stay,
+-- proved."
 use mathlib.Core.Path.{_≡_, refl}
 use mathlib.Core.Bool.{_&&_, _||_}
 use mathlib.Core.Logic.{inl, inr}
@@ -22,7 +23,8 @@ use Rattle.rules.specs.Result.{Result}
 use Rattle.desk.specs.Answer.{of-cutting, Answers}
 use Rattle.demands.specs.Program.{cutting, Gives}
 use Rattle.demands.specs.Checks.{every, every-passes}
-use Rattle.demands.specs.Rows.{Case, given, refused, Row, case, sees, misses, row-test, Holds, row-holds}
+use Rattle.demands.specs.Rows.{Case, given, refused, Row, case, sees, misses, centre-sees, centre-misses}
+use Rattle.demands.specs.Rows.{row-test, Holds, row-holds}
 
 -- ---- outlines that 01 does not draw; negsuc n is -(n+1)
 -- (a,0) (b,0) (b,4) (a,4)
@@ -36,14 +38,25 @@ hidden-first = pos 0 ∷ pos 4 ∷ pos 0 ∷ pos 1 ∷ pos 1 ∷ pos 0 ∷ pos 1
 abbrev hidden-second : List ℤ
 hidden-second = pos 3 ∷ pos 0 ∷ pos 2 ∷ pos 1 ∷ pos 4 ∷ pos 1 ∷ pos 4 ∷ pos 2 ∷ pos 0 ∷ pos 3 ∷ pos 0 ∷ pos 2 ∷ []
 
--- (0,3) (2,4) (0,2) (5,2) (5,3) (5,4) (3,5) and (0,3) (0,1) (2,0) (4,3) (2,2) (2,5) (1,3)
+-- (0,0) (1,2) (2,0) (2,1) (2,3) (0,3) and (3,2) (3,3) (1,1) (1,2) (0,0) (3,1)
+abbrev grazed-first : List ℤ
+grazed-first = pos 0 ∷ pos 0 ∷ pos 1 ∷ pos 2 ∷ pos 2 ∷ pos 0 ∷ pos 2 ∷ pos 1 ∷ pos 2 ∷ pos 3 ∷ pos 0 ∷ pos 3 ∷ []
+
+abbrev grazed-second : List ℤ
+grazed-second = pos 3 ∷ pos 2 ∷ pos 3 ∷ pos 3 ∷ pos 1 ∷ pos 1 ∷ pos 1 ∷ pos 2 ∷ pos 0 ∷ pos 0 ∷ pos 3 ∷ pos 1 ∷ []
+
+-- (0,0) (3,0) (1,2) (2,4) (0,2) (0,1) (1,1) and (0,1) (3,0) (5,4) (5,5) (3,2) (4,5) (1,3)
 abbrev pub fewest-first : List ℤ
 fewest-first =
-    pos 0 ∷ pos 3 ∷ pos 2 ∷ pos 4 ∷ pos 0 ∷ pos 2 ∷ pos 5 ∷ pos 2 ∷ pos 5 ∷ pos 3 ∷ pos 5 ∷ pos 4 ∷ pos 3 ∷ pos 5 ∷ []
+    pos 0 ∷ pos 0 ∷ pos 3 ∷ pos 0 ∷ pos 1 ∷ pos 2 ∷ pos 2 ∷ pos 4 ∷ pos 0 ∷ pos 2 ∷ pos 0 ∷ pos 1 ∷ pos 1 ∷ pos 1 ∷ []
 
 abbrev pub fewest-second : List ℤ
 fewest-second =
-    pos 0 ∷ pos 3 ∷ pos 0 ∷ pos 1 ∷ pos 2 ∷ pos 0 ∷ pos 4 ∷ pos 3 ∷ pos 2 ∷ pos 2 ∷ pos 2 ∷ pos 5 ∷ pos 1 ∷ pos 3 ∷ []
+    pos 0 ∷ pos 1 ∷ pos 3 ∷ pos 0 ∷ pos 5 ∷ pos 4 ∷ pos 5 ∷ pos 5 ∷ pos 3 ∷ pos 2 ∷ pos 4 ∷ pos 5 ∷ pos 1 ∷ pos 3 ∷ []
+
+-- 02's rectangle: one piece of eight corners, centre 0
+abbrev pub all-eight : List ℕ
+all-eight = 8 ∷ 0 ∷ 0 ∷ 1 ∷ 2 ∷ 3 ∷ 4 ∷ 5 ∷ 6 ∷ 7 ∷ []
 
 -- ---- the table
 abbrev pub cases : List Case
@@ -61,11 +74,15 @@ cases =
     -- "(0,0) (4,4) (4,0) (0,4) with S: 4, and not 5. S backwards with S: 5."
     ∷ refused crossing S 10 4
     ∷ refused backwards S 10 5
-    -- without a star: "S with it: 8"; the rectangle with straight corners, "with itself: two pieces"; H with itself,
-    -- where all see all
+    -- without a star: "S with it: 8"; H with itself, where all see all
     ∷ refused S backwards 10 8
-    ∷ given straight straight 30 2 (7 ∷ 6 ∷ 0 ∷ 1 ∷ 2 ∷ 3 ∷ 5 ∷ 6 ∷ 7 ∷ 3 ∷ 3 ∷ 3 ∷ 4 ∷ 5 ∷ [])
     ∷ given H H 20 1 (6 ∷ 0 ∷ 0 ∷ 1 ∷ 2 ∷ 3 ∷ 4 ∷ 5 ∷ [])
+    -- "(0,0) (1,0) (2,0) (3,0) (3,3) (2,3) (1,3) (0,3) with itself"; 02, K3: "That rectangle with itself is now one
+    -- piece, centre 0."
+    ∷ given straight straight 30 1 all-eight
+    -- "A cut keeps the strict rule." In the first drawing 2-4 runs along corner 3; if it were a cut, two pieces would
+    -- be given
+    ∷ refused grazed-first grazed-second 20 9
     -- "n = 2 and n = 65: 1", whatever the room
     ∷ refused (pos 0 ∷ pos 0 ∷ pos 4 ∷ pos 0 ∷ []) (pos 0 ∷ pos 0 ∷ pos 4 ∷ pos 0 ∷ []) 0 1
     ∷ refused (replicate 130 (pos 0)) (replicate 130 (pos 0)) 0 1
@@ -82,7 +99,7 @@ cases =
     -- range before simplicity: a crossing outline that reaches the limit, and one that passes it
     ∷ refused (pos 0 ∷ pos 0 ∷ pos 1000000 ∷ pos 4 ∷ pos 4 ∷ pos 0 ∷ pos 0 ∷ pos 4 ∷ []) S 10 4
     ∷ refused (pos 0 ∷ pos 0 ∷ pos 1000001 ∷ pos 4 ∷ pos 4 ∷ pos 0 ∷ pos 0 ∷ pos 4 ∷ []) S 10 3
-    -- a side that hides: without it a cutting would be given
+    -- a side that hides: if it hid nothing from cuts, or nothing from centres, a cutting would be given
     ∷ refused hidden-first hidden-second 20 9
     -- fewest before first: the cutting that comes first of all has three pieces (`Later`)
     ∷ given fewest-first fewest-second 25 2 (5 ∷ 6 ∷ 0 ∷ 1 ∷ 4 ∷ 5 ∷ 6 ∷ 4 ∷ 2 ∷ 1 ∷ 2 ∷ 3 ∷ 4 ∷ [])
@@ -93,6 +110,8 @@ rows =
     map case cases
     -- "In Z, 0 sees 3 and not 4; 1 does not see 3."
     ++ (sees Z 0 3 ∷ misses Z 0 4 ∷ misses Z 1 3 ∷ [])
+    -- and so for a centre
+    ++ (centre-sees Z 0 3 ∷ centre-misses Z 0 4 ∷ centre-misses Z 1 3 ∷ [])
 
 pass : T (every row-test rows)
 unfolding flatMap
@@ -101,7 +120,7 @@ pass = tt
 pub outlines : (r : Row) → In r rows → Holds r
 outlines r i = row-holds r (every-passes row-test rows pass r i)
 
--- ---- three of them by name, with every buffer of at least that room
+-- ---- four of them by name, with every buffer of at least that room
 pub s-with-s : (before : List ℕ) → 10 ≤ length before → Gives S S before (cutting 1 (4 ∷ 0 ∷ 0 ∷ 1 ∷ 2 ∷ 3 ∷ []))
 s-with-s = outlines _ (inl refl)
 
@@ -111,7 +130,10 @@ z-with-h = outlines _ (inr (inr (inr (inr (inr (inl refl))))))
 
 pub h-with-h : (before : List ℕ) → 20 ≤ length before →
     Gives H H before (cutting 1 (6 ∷ 0 ∷ 0 ∷ 1 ∷ 2 ∷ 3 ∷ 4 ∷ 5 ∷ []))
-h-with-h = outlines _ (inr (inr (inr (inr (inr (inr (inr (inr (inr (inr (inr (inl refl))))))))))))
+h-with-h = outlines _ (inr (inr (inr (inr (inr (inr (inr (inr (inr (inr (inl refl)))))))))))
+
+pub rectangle : (before : List ℕ) → 30 ≤ length before → Gives straight straight before (cutting 1 all-eight)
+rectangle = outlines _ (inr (inr (inr (inr (inr (inr (inr (inr (inr (inr (inr (inl refl))))))))))))
 
 -- ---- "first the piece of the range, then the ranges under its lines from left to right, each told in the same way":
 -- depth first. Seven corners, cut along 0-2, 0-3 and 3-6: what stands under 0-3 is told to its end before what stands

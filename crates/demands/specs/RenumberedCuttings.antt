@@ -8,6 +8,7 @@ use native.Mathlib.Omega.{arith}
 use lib.IntN.{ℤ}
 use lib.ListN.{length}
 use Rattle.outline.specs.Drawing.{corners, next, Sees}
+use Rattle.outline.specs.InOrOn.{CentreSees}
 use Rattle.outline.specs.Round.{next-inner, next-last}
 use Rattle.rules.specs.Cutting.{Pairs, Valid, pieces}
 use Rattle.rules.specs.Centre.{HasCentre}
@@ -17,6 +18,7 @@ use Rattle.pair.specs.Pair.{Alike}
 use Rattle.desk.specs.Answer.{InBoth, Cut, ValidCutting}
 use Rattle.demands.specs.Entered.{turned, turned-by}
 use Rattle.demands.specs.Turned.{length-turned, corners-turned, sees-turned}
+use Rattle.demands.specs.CentreTurned.{centre-turned}
 use Rattle.demands.specs.Renumbered.{once-round}
 use Rattle.demands.specs.SameAnswer.{alike-by-length}
 
@@ -32,18 +34,30 @@ no-more-trans h g C va =
     let E = g (D .0) (D .1) in
     (E .0, E .1, omega arith)
 
--- ---- one step: corner x becomes x′, and sees what it saw
+-- ---- one step: corner x becomes x′, and sees what it saw, by the rule for cuts and by the rule for centres
 moved-next : (n x x′ : ℕ) → Moved n x x′ → (x < n) × (next n x ≡ x′)
 moved-next n x x′ (inl m) = (omega arith, next-last n x (m .0) ∙ sym (m .1))
 moved-next n x x′ (inr m) = (omega arith, next-inner n x (m .0) ∙ sym (m .1))
 
-sees-on : (d : List ℤ) (n : ℕ) → n ≡ corners d → length d ≡ 2 * corners d → (x x′ y y′ : ℕ) →
-    Moved n x x′ → Moved n y y′ →
-    Sees d x y → Sees (turned d) x′ y′
-sees-on d n e even x x′ y y′ m l s =
-    let h = moved-next (corners d) x x′ (subst (λ n. Moved n x x′) e m) in
-    let g = moved-next (corners d) y y′ (subst (λ n. Moved n y y′) e l) in
-    subst₂ (Sees (turned d)) (h .1) (g .1) (sees-turned d even x y (h .0) (g .0) .0 s)
+-- renumbering by one corner keeps a kind of sight
+abbrev Kept : (List ℤ → ℕ → ℕ → Type 0) → Type 0
+Kept sees = (d : List ℤ) → length d ≡ 2 * corners d → (i j : ℕ) → i < corners d → j < corners d →
+    sees d i j → sees (turned d) (next (corners d) i) (next (corners d) j)
+
+strict-kept : Kept Sees
+strict-kept d even i j h g = sees-turned d even i j h g .0
+
+centre-kept : Kept CentreSees
+centre-kept d even i j h g = centre-turned d even (omega arith) i j h g .0
+
+module _ (sees : List ℤ → ℕ → ℕ → Type 0) (kept : Kept sees) where
+  sees-on : (d : List ℤ) (n : ℕ) → n ≡ corners d → length d ≡ 2 * corners d → (x x′ y y′ : ℕ) →
+      Moved n x x′ → Moved n y y′ →
+      sees d x y → sees (turned d) x′ y′
+  sees-on d n e even x x′ y y′ m l s =
+      let h = moved-next (corners d) x x′ (subst (λ n. Moved n x x′) e m) in
+      let g = moved-next (corners d) y y′ (subst (λ n. Moved n y y′) e l) in
+      subst₂ (sees (turned d)) (h .1) (g .1) (kept d even x y (h .0) (g .0) s)
 
 alike-turned : (first second : List ℤ) → Alike first second → Alike (turned first) (turned second)
 alike-turned first second = alike-by-length (length-turned first) (length-turned second) .0
@@ -64,23 +78,28 @@ module _ (first second : List ℤ) (a : Alike first second) where
   abbrev cut′ : ℕ → ℕ → Type 0
   cut′ = Cut (turned first) (turned second)
 
-  goes : (x x′ y y′ : ℕ) → Moved n x x′ → Moved n y y′ → old x y → new x′ y′
-  goes x x′ y y′ m l s = (
-    sees-on first n refl (a .even) x x′ y y′ m l (s .0),
-    sees-on second n (omega arith) (omega arith) x x′ y y′ m l (s .1),
+  goes : (sees : List ℤ → ℕ → ℕ → Type 0) → Kept sees → (x x′ y y′ : ℕ) → Moved n x x′ → Moved n y y′ →
+      sees first x y × sees second x y → sees (turned first) x′ y′ × sees (turned second) x′ y′
+  goes sees kept x x′ y y′ m l s = (
+    sees-on sees kept first n refl (a .even) x x′ y y′ m l (s .0),
+    sees-on sees kept second n (omega arith) (omega arith) x x′ y y′ m l (s .1),
   )
+
+  strict : (x x′ y y′ : ℕ) → Moved n x x′ → Moved n y y′ →
+      Sees first x y × Sees second x y → Sees (turned first) x′ y′ × Sees (turned second) x′ y′
+  strict = goes Sees strict-kept
 
   carried : Carried n cut cut′ (HasCentre old) (HasCentre new)
   carried = record {
     others = λ x y lt h c.
         let p : Moved n x (suc x) = inr (omega arith, refl) in
         let q : Moved n y (suc y) = inr (h, refl) in
-        (goes x (suc x) y (suc y) p q (c .0), goes y (suc y) x (suc x) q p (c .1));
+        (strict x (suc x) y (suc y) p q (c .0), strict y (suc y) x (suc x) q p (c .1));
     last = λ x y lt h c.
         let p : Moved n x (suc x) = inr (omega arith, refl) in
         let q : Moved n y 0 = inl (h, refl) in
-        (goes y 0 x (suc x) q p (c .1), goes x (suc x) y 0 p q (c .0));
-    lists = centre-turn n old new goes;
+        (strict y 0 x (suc x) q p (c .1), strict x (suc x) y 0 p q (c .0));
+    lists = centre-turn n old new (goes CentreSees centre-kept);
   }
 
   no-more-turned : NoMore first second (turned first) (turned second)

@@ -1,18 +1,20 @@
 -- Rows of a table of examples, each with a computed test: two drawings, the room, and what comes back; or a drawing
--- and two of its corners, which see each other or do not. Where the test passes the row holds. `Holds` has to be
--- believed.
+-- and two of its corners, which see each other or do not, by the rule for cuts or by that for centres. Where the test
+-- passes the row holds. `Holds` has to be believed.
 use mathlib.Core.Path.{_≡_, refl, ap, ap₂, _∙_, subst}
 use mathlib.Core.Bool.{Bool, true, false, not, _&&_}
 use mathlib.Core.List.{List, [], _∷_}
 use Prim.Native.Nat.{ℕ, _≤_}
 use native.Mathlib.Omega.{arith}
-use lib.Dec.{T, eqb}
+use lib.Dec.{T, eqb, ltb}
 use lib.IntN.{ℤ}
 use lib.ListN.{length, replicate, length-replicate}
-use Rattle.outline.specs.Drawing.{Sees}
+use Rattle.outline.specs.Drawing.{corners, Sees}
+use Rattle.outline.specs.InOrOn.{CentreSees}
 use Rattle.outline.specs.Tells.{Tells, as-well, surely, never, passed, failed, if-yes, if-no}
-use Rattle.outline.specs.Tells.{and-tells, then-tells, eq-tells}
-use Rattle.outline.specs.Mirror.{sees-test, sees-tells}
+use Rattle.outline.specs.Tells.{itself, and-tells, then-tells, eq-tells, lower-tells}
+use Rattle.outline.specs.Mirror.{simple-test, simple-tells, sees-test, sees-tells}
+use Rattle.outline.specs.CentreMirror.{centre-test, centre-tells}
 use Rattle.rules.specs.Result.{Result}
 use Rattle.desk.specs.Answer.{Answers}
 use Rattle.desk.specs.Unique.{answer-unique}
@@ -97,23 +99,42 @@ pub case-only : (c : Case) → Comes c → (before : List ℕ) → Rooms c (leng
     Answers (c .first) (c .second) before r → r ≡ writing (c .answer) before
 case-only c h before m r a = answer-unique (c .first) (c .second) before r _ a (h before m)
 
--- ---- a row is such a case, or a sight
+-- ---- a row is such a case, or a sight: of either kind
 pub data Row : Type 0 where
   case : Case → Row
   sees : List ℤ → ℕ → ℕ → Row
   misses : List ℤ → ℕ → ℕ → Row
+  centre-sees : List ℤ → ℕ → ℕ → Row
+  centre-misses : List ℤ → ℕ → ℕ → Row
 
 abbrev pub Holds : Row → Type 0
 Holds (case c) = Comes c
 Holds (sees d i j) = Sees d i j
 Holds (misses d i j) = ¬ Sees d i j
+Holds (centre-sees d i j) = CentreSees d i j
+Holds (centre-misses d i j) = ¬ CentreSees d i j
+
+-- the test of a centre's sight tells of two corners of a simple drawing
+abbrev asked-well : List ℤ → ℕ → ℕ → Bool
+asked-well d i j = simple-test d && (ltb i (corners d) && ltb j (corners d))
 
 abbrev pub row-test : Row → Bool
 row-test (case c) = case-test c
 row-test (sees d i j) = sees-test d i j
 row-test (misses d i j) = not (sees-test d i j)
+row-test (centre-sees d i j) = asked-well d i j && centre-test d i j
+row-test (centre-misses d i j) = asked-well d i j && not (centre-test d i j)
+
+module _ (d : List ℤ) (i j : ℕ) where
+  centre-told : (b : Bool) → T (asked-well d i j && b) → Tells (centre-test d i j) (CentreSees d i j) × T b
+  centre-told b h =
+      let corners-of = and-tells (lower-tells i (corners d)) (lower-tells j (corners d)) in
+      let p = and-tells (and-tells (simple-tells d) corners-of) (itself b) .sure h in
+      (centre-tells d (p .0 .0) i j (p .0 .1 .0) (p .0 .1 .1), p .1)
 
 pub row-holds : (r : Row) → T (row-test r) → Holds r
 row-holds (case c) h = case-comes c h
 row-holds (sees d i j) h = passed (sees-tells d i j) h
 row-holds (misses d i j) h = failed (sees-tells d i j) h
+row-holds (centre-sees d i j) h = let p = centre-told d i j (centre-test d i j) h in passed (p .0) (p .1)
+row-holds (centre-misses d i j) h = let p = centre-told d i j (not (centre-test d i j)) h in failed (p .0) (p .1)

@@ -1,8 +1,8 @@
 -- Two pairs of drawings have the same answer where each line of 01's table asks the same of both and where the same
--- corners see each other in both: their plans agree. "The cutting rules learn of a drawing only whether i sees j"
--- (01, "Sight") is here a theorem about the answer.
+-- corners see each other in both, by the rule for cuts and by the rule for centres: their plans agree. "The cutting
+-- rules learn of a drawing only whether i sees j" (01, "Sight") is here a theorem about the answer.
 use mathlib.Core.Path.{_≡_, sym, subst}
-use mathlib.Core.Logic.{_↔_, Iff·symm, Iff·rfl, Iff·and}
+use mathlib.Core.Logic.{_↔_, Iff·symm, Iff·rfl}
 use mathlib.Core.List.{List, _++_}
 use Prim.Native.Nat.{ℕ, _<_}
 use native.Mathlib.Omega.{arith}
@@ -15,7 +15,7 @@ use Rattle.rules.specs.Refusals.{Line, SameAsked, end, same, same-failed}
 use Rattle.rules.specs.Plan.{Cuttable}
 use Rattle.rules.specs.Result.{Result, Given}
 use Rattle.rules.specs.Agree.{Agree, stars-agree, cuttable-same, given-same}
-use Rattle.desk.specs.Answer.{InBoth, plan, asked, Answers}
+use Rattle.desk.specs.Answer.{Cut, InBoth, plan, asked, Answers}
 use Rattle.demands.specs.Lines.{given-alike}
 
 -- ---- lines that ask the same of two pairs
@@ -67,15 +67,19 @@ module _ (first second first′ second′ : List ℤ) where
       same fits
       (λ _. judged 3 4 5 (l .judged-first) (judged 6 7 8 (l .judged-second) (same (l .cuttable) (λ _. end)))))
 
--- ---- two pairs of drawings with the same sight: their plans agree
+-- ---- two pairs of drawings with the same sight of either kind: their plans agree
 pub record SameSight (first second first′ second′ : List ℤ) : Type 0 where
   pub many : corners first′ ≡ corners first
+  pub cuts : (a b : ℕ) → a < corners first → b < corners first → Cut first second a b ↔ Cut first′ second′ a b
   pub seen : (x y : ℕ) → x < corners first → y < corners first → InBoth first second x y ↔ InBoth first′ second′ x y
 
 sight-back : (first second first′ second′ : List ℤ) → SameSight first second first′ second′ →
     SameSight first′ second′ first second
 sight-back first second first′ second′ sight = record {
   many = sym (sight .many);
+  cuts =
+      subst (λ n. (a b : ℕ) → a < n → b < n → Cut first′ second′ a b ↔ Cut first second a b) (sym (sight .many))
+      (λ a b h g. Iff·symm (sight .cuts a b h g));
   seen =
       subst (λ n. (x y : ℕ) → x < n → y < n → InBoth first′ second′ x y ↔ InBoth first second x y) (sym (sight .many))
       (λ x y h g. Iff·symm (sight .seen x y h g));
@@ -84,9 +88,7 @@ sight-back first second first′ second′ sight = record {
 module _ (first second first′ second′ : List ℤ) (sight : SameSight first second first′ second′) where
   agree : Agree (corners first) (plan first second) (plan first′ second′)
   agree =
-      stars-agree (λ a b i.
-      let h : a < corners first = omega arith in
-      Iff·and (sight .seen a b h (i .small)) (sight .seen b a (i .small) h)) (sight .seen)
+      stars-agree (λ a b i. sight .cuts a b (omega (arith, i .rises, i .small)) (i .small)) (sight .seen)
 
   pub same-cuttable : Cuttable (plan first second) (corners first) ↔ Cuttable (plan first′ second′) (corners first′)
   same-cuttable =

@@ -13,12 +13,13 @@ use lib.ListN.{length, take}
 use lib.Seq.{take-at}
 use lib.Signed.{ltZ-yes}
 use Rattle.outline.specs.Tells.{failed, itself, and-tells, eq-tells}
-use Rattle.outline.specs.Outlines.{S, D, E, Z, H, crossing, backwards}
+use Rattle.outline.specs.Outlines.{S, D, E, Z, H, crossing, backwards, straight}
 use Rattle.rules.specs.Lists.{In}
 use Rattle.rules.specs.Result.{Result}
 use Rattle.desk.specs.Answer.{Answers}
 use Rattle.demands.specs.Entered.{exchanged, Rule, send, move, turned-by}
 use Rattle.demands.specs.Program.{refusal, writing}
+use Rattle.demands.specs.Outlines.{all-eight}
 use Rattle.demands.specs.Checks.{every, every-passes}
 use Rattle.demands.specs.Rows.{Case, given, refused, Rooms, Comes, bytes-test}
 use Rattle.demands.specs.Rows.{bytes-tells, case-test, case-comes, case-only}
@@ -84,6 +85,9 @@ promised =
       given (turned-by 2 Z) (turned-by 2 H) 20 2 (5 ∷ 1 ∷ 0 ∷ 1 ∷ 2 ∷ 4 ∷ 5 ∷ 3 ∷ 2 ∷ 2 ∷ 3 ∷ 4 ∷ []),
     )
     ∷ (refused D E 10 9, refused (turned-by 2 D) (turned-by 2 E) 10 9)
+    -- a centre that sees along straight corners (02, K3): under a rule, and renumbered
+    ∷ (given straight straight 30 1 all-eight, given (move quarter straight) straight 30 1 all-eight)
+    ∷ (given straight straight 30 1 all-eight, given (turned-by 1 straight) (turned-by 1 straight) 30 1 all-eight)
     ∷ []
 
 -- ---- what is not, and does not hold

@@ -4,6 +4,8 @@
 -- (2) ".. an accepted cutting is valid in both drawings, no valid cutting has fewer pieces, and among those with as
 -- few it is the one that document 01 puts first. Given enough room, "no common cutting" is said exactly when both
 -- drawings are sound, with equally many corners, and no valid cutting exists."
+-- 02, K3: "Demands 2 and 3 read the two kinds of sight from here on": what is valid has cuts by the strict rule and
+-- centres by their own, as desk's statement has them.
 use mathlib.Core.Path.{_≡_, refl, sym, subst}
 use mathlib.Core.Logic.{_⊎_, inl, inr, _↔_}
 use mathlib.Core.List.{List, [], _∷_}
@@ -13,6 +15,7 @@ use lib.IntN.{ℤ}
 use lib.ListN.{length}
 use Rattle.limits.specs.Limits.{Roomy}
 use Rattle.outline.specs.Drawing.{corners, Sound, Sees}
+use Rattle.outline.specs.InOrOn.{CentreSees}
 use Rattle.pair.specs.Pair.{Alike, of-drawings}
 use Rattle.pair.specs.Passing.{sound-pair, drawings-hold, equally-many}
 use Rattle.rules.specs.Lists.{In, rise-in}
@@ -65,19 +68,21 @@ both-sound first second room h =
     record { first-sound = p .first-sound; second-sound = p .second-sound; equally-many = omega arith }
 
 -- ---- what is valid of two drawings is valid of each alone
-in-each : (first second d : List ℤ) → corners d ≡ corners first → ((x y : ℕ) → InBoth first second x y → Sees d x y) →
-    (C : Pairs) → ValidCutting first second C → ValidCutting d d C
-in-each first second d e sees C valid =
-    subst (λ n. ValidBy (plan d d) n C) (sym e)
-    (valid-map (corners first) (Cut first second) (Cut d d) (HasCentre (InBoth first second))
-    (HasCentre (InBoth d d)) C
-    (record {
-      cuts = λ a b i c. (both a b (c .0), both b a (c .1));
-      lists = λ S r small three. has-centre-map (λ x y h g. both x y) S small;
-    }) valid)
-  where
-    both : (x y : ℕ) → InBoth first second x y → InBoth d d x y
-    both x y s = (sees x y s, sees x y s)
+module _ (first second d : List ℤ) (many : corners d ≡ corners first)
+    (strict : (a b : ℕ) → Sees first a b × Sees second a b → Sees d a b)
+    (centre : (x y : ℕ) → InBoth first second x y → CentreSees d x y) where
+  in-each : (C : Pairs) → ValidCutting first second C → ValidCutting d d C
+  in-each C valid =
+      subst (λ n. ValidBy (plan d d) n C) (sym many)
+      (valid-map (corners first) (Cut first second) (Cut d d) (HasCentre (InBoth first second))
+      (HasCentre (InBoth d d)) C
+      (record {
+        cuts = λ a b i c. (twice (strict a b (c .0)), twice (strict b a (c .1)));
+        lists = λ S r small three. has-centre-map (λ x y h g s. twice (centre x y s)) S small;
+      }) valid)
+    where
+      twice : {P : Type 0} → P → P × P
+      twice p = (p, p)
 
 -- ---- demand 1
 -- "Every pair handed in, however broken, gets ..": there is an answer for every pair of lists and every buffer (and
@@ -114,9 +119,9 @@ module _ (first second : List ℤ) (before : List ℕ) (r : Result) (a : Answers
     -- and so in each of them alone
     pub accepted-in-each : ValidCutting first first accepted × ValidCutting second second accepted
     accepted-in-each = (
-      in-each first second first refl (λ x y s. s .0) accepted accepted-valid,
+      in-each first second first refl (λ a b s. s .0) (λ x y s. s .0) accepted accepted-valid,
       in-each first second second (equally-many (given-alike first second (length before) (r .number) z (a .numbered)))
-          (λ x y s. s .1) accepted accepted-valid,
+          (λ a b s. s .1) (λ x y s. s .1) accepted accepted-valid,
     )
 
     module _ (D : Pairs) (valid : ValidCutting first second D) where

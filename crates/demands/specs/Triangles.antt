@@ -9,7 +9,9 @@ use native.Mathlib.Omega.{arith}
 use native.Mathlib.Decide.{ℕ-discrete}
 use lib.IntN.{ℤ}
 use lib.ListN.{length}
-use Rattle.outline.specs.Drawing.{corners, next, Sees}
+use Rattle.outline.specs.Drawing.{corners, next}
+use Rattle.outline.specs.InOrOn.{CentreSees}
+use Rattle.outline.specs.CentreSight.{centre-beside}
 use Rattle.outline.specs.Tells.{or-tells, eq-tells, all-tells}
 use Rattle.rules.specs.Lists.{In}
 use Rattle.rules.specs.Cutting.{Pairs, Inner, Region, Valid, pieces, weight, one, First}
@@ -27,9 +29,10 @@ beside : (x : ℕ) → x < 3 → (y : ℕ) → y < 3 → (x ≡ y) ⊎ ((next 3 
 beside =
     all-tells 3 (λ x l. all-tells 3 (λ y m. or-tells (eq-tells _ _) (or-tells (eq-tells _ _) (eq-tells _ _)))) .sure tt
 
-three-see : (d : List ℤ) → corners d ≡ 3 → (x y : ℕ) → x < 3 → y < 3 → Sees d x y
+three-see : (d : List ℤ) → corners d ≡ 3 → (x y : ℕ) → x < 3 → y < 3 → CentreSees d x y
 three-see d e x y l m =
-    record { sees = inl (subst (λ n. (x ≡ y) ⊎ ((next n x ≡ y) ⊎ (next n y ≡ x))) (sym e) (beside x l y m)) }
+    centre-beside x y (omega arith) (omega arith)
+    (subst (λ n. (x ≡ y) ⊎ ((next n x ≡ y) ⊎ (next n y ≡ x))) (sym e) (beside x l y m))
 
 -- ---- and no pair is left for a cut
 none : Pairs

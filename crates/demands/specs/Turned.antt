@@ -79,7 +79,7 @@ module _ (d : List ℤ) (even : length d ≡ 2 * corners d) where
           below : (k : ℕ) → k < length d → k < length (turned d)
           below k = subst (λ n. k < n) (sym (length-turned d))
 
-  corner-turned : (i : ℕ) → i < corners d → corner (turned d) (next (corners d) i) ≡ corner d i
+  pub corner-turned : (i : ℕ) → i < corners d → corner (turned d) (next (corners d) i) ≡ corner d i
   corner-turned i h = by-cases (decLt (suc i) (corners d)) inner last
     where
       inner : suc i < corners d → corner (turned d) (next (corners d) i) ≡ corner d i

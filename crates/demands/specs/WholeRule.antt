@@ -1,6 +1,7 @@
 -- Demand 3, the second part: whole-number rules. A rule sends (x,y) to (ax+by+e, cx+dy+f) with whole a to f and
 -- ad-bc > 0. Applied to one of the drawings, with its coordinates in range before exactly when after, it changes
--- nothing of the answer: the same number, refusals too, the same counts, every byte the same.
+-- nothing of the answer: the same number, refusals too, the same counts, every byte the same. 02, K3: "Demands 2 and 3
+-- read the two kinds of sight from here on": the rule keeps either.
 use mathlib.Core.Path.{_≡_, refl}
 use mathlib.Core.Logic.{_↔_, Iff·rfl, Iff·and}
 use mathlib.Core.List.{List}
@@ -14,6 +15,7 @@ use Rattle.desk.specs.Answer.{Answers}
 use Rattle.desk.specs.Unique.{answer-unique}
 use Rattle.demands.specs.Entered.{Rule, move}
 use Rattle.demands.specs.Moved.{length-moved, corners-moved, simple-moved, anticlockwise-moved, sees-moved}
+use Rattle.demands.specs.CentreMoved.{centre-moved}
 use Rattle.demands.specs.SameAnswer.{SameJudged, alike-by-length, same-judged, same-answer}
 use Rattle.demands.specs.Program.{Program, Meets}
 
@@ -34,8 +36,12 @@ module _ (t : Rule) where
         (λ a. record {
           judged-first = judged-moved first range;
           judged-second = same-judged second;
-          sight =
-              record { many = corners-moved t first; seen = λ x y h g. Iff·and (sees-moved t first x y h g) Iff·rfl };
+          sight = record {
+            many = corners-moved t first;
+            cuts = λ i j h g. Iff·and (Iff·and (sees-moved t first i j h g) Iff·rfl)
+                (Iff·and (sees-moved t first j i g h) Iff·rfl);
+            seen = λ x y h g. Iff·and (centre-moved t first x y h g) Iff·rfl;
+          };
         })
 
     pub rule-second : KeepsRange second → (before : List ℕ) (r : Result) →
@@ -45,8 +51,12 @@ module _ (t : Rule) where
         (λ a. record {
           judged-first = same-judged first;
           judged-second = judged-moved second range;
-          sight =
-              record { many = refl; seen = λ x y h g. Iff·and Iff·rfl (sees-moved t second x y (low a h) (low a g)) };
+          sight = record {
+            many = refl;
+            cuts = λ i j h g. Iff·and (Iff·and Iff·rfl (sees-moved t second i j (low a h) (low a g)))
+                (Iff·and Iff·rfl (sees-moved t second j i (low a g) (low a h)));
+            seen = λ x y h g. Iff·and Iff·rfl (centre-moved t second x y (low a h) (low a g));
+          };
         })
       where
         low : {x : ℕ} → Alike first second → x < corners first → x < corners second

@@ -2,25 +2,32 @@
 -- demand 2: one that refuses everything, one that always returns the same cutting, one that writes nothing and
 -- reports success. A program with invented counts fails there too." First by single calls, with every buffer of
 -- enough room: a call of `desk` has lists of i32 and bytes only, so it is no `Program`, which takes every list. Then
--- as a theorem about every program of the kind.
-use mathlib.Core.Path.{_≡_, sym, ap, _∙_}
-use mathlib.Core.List.{List, [], _∷_, _++_}
+-- as a theorem about every program of the kind. And since 02, K3, so is a program that keeps the strict rule for
+-- centres.
+use mathlib.Core.Path.{_≡_, refl, sym, ap, _∙_, subst}
+use mathlib.Core.Logic.{inl, inr}
+use mathlib.Core.List.{List, [], _∷_, _++_, append-nil}
 use Prim.Native.Nat.{ℕ, _≤_, _<_}
 use native.Mathlib.Omega.{arith}
 use lib.IntN.{ℤ}
-use lib.ListN.{length, drop, getD, replicate}
-use Rattle.outline.specs.Drawing.{corners}
-use Rattle.outline.specs.Outlines.{S, Z, H}
+use lib.ListN.{length, take, drop, getD, replicate}
+use lib.Seq.{take-at}
+use Rattle.outline.specs.Drawing.{corners, Sees}
+use Rattle.outline.specs.Tells.{failed}
+use Rattle.outline.specs.Mirror.{sees-tells}
+use Rattle.outline.specs.Outlines.{S, Z, H, straight}
+use Rattle.rules.specs.Lists.{In}
 use Rattle.rules.specs.Cutting.{Pairs, pieces, one}
-use Rattle.rules.specs.Centre.{size, layout-size}
+use Rattle.rules.specs.Centre.{Layout, size, layout-size}
+use Rattle.rules.specs.Plan.{Plan, stars}
 use Rattle.rules.specs.Valid.{first-unique}
-use Rattle.rules.specs.Result.{Result}
-use Rattle.desk.specs.Answer.{plan, FirstCutting, Answers}
+use Rattle.rules.specs.Result.{Result, Carries, Given}
+use Rattle.desk.specs.Answer.{Cut, plan, FirstCutting, Answers}
 use Rattle.desk.specs.Unique.{answer-unique}
-use Rattle.demands.specs.Outlines.{s-with-s, z-with-h, h-with-h}
+use Rattle.demands.specs.Outlines.{all-eight, s-with-s, z-with-h, h-with-h, rectangle}
 use Rattle.demands.specs.Program.{Program, Meets, cutting, writing}
 
--- ---- what three rows of the table leave to a call
+-- ---- what four rows of the table leave to a call
 module _ (before : List ℕ) (r : Result) where
   s-s : 10 ≤ length before → Answers S S before r → r ≡ writing (cutting 1 (4 ∷ 0 ∷ 0 ∷ 1 ∷ 2 ∷ 3 ∷ [])) before
   s-s room a = answer-unique S S before r _ a (s-with-s before room)
@@ -31,6 +38,9 @@ module _ (before : List ℕ) (r : Result) where
 
   h-h : 20 ≤ length before → Answers H H before r → r ≡ writing (cutting 1 (6 ∷ 0 ∷ 0 ∷ 1 ∷ 2 ∷ 3 ∷ 4 ∷ 5 ∷ [])) before
   h-h room a = answer-unique H H before r _ a (h-with-h before room)
+
+  rectangle-is : 30 ≤ length before → Answers straight straight before r → r ≡ writing (cutting 1 all-eight) before
+  rectangle-is room a = answer-unique straight straight before r _ a (rectangle before room)
 
 abbrev number-of : Result → ℕ
 number-of r = r .number
@@ -73,7 +83,51 @@ module _ (before before′ : List ℕ) (r s : Result) where
         ap (λ l. getD l 0 0) g,
       )
 
--- one with invented counts, by any call: "pieces and bytes are those of the told run", and a refusal has none
+-- ---- one that has the strict rule for centres too, by the rectangle: one piece of all eight corners has 0 for its
+-- centre, and strictly 0 does not see 2
+abbrev pub strict-plan : List ℤ → List ℤ → Plan
+strict-plan first second = stars (Cut first second) (λ x y. Sees first x y × Sees second x y)
+
+unseen : ¬ Sees straight 0 2
+unseen = failed (sees-tells straight 0 2) tt
+
+not-strict : (l : List (List ℕ)) (bytes : List ℕ) → Layout (strict-plan straight straight .centre) l bytes →
+    length l ≡ 1 → bytes ≡ all-eight → ⊥
+not-strict [] bytes h e b = omega (arith, e)
+not-strict (S ∷ []) bytes h e b =
+    unseen (subst (λ x. Sees straight x 2) zero (h .2 .centre .1 2 (subst (In 2) (sym all) (inr (inr (inl refl)))) .0))
+  where
+    is : length S ∷ h .0 ∷ (S ++ h .1) ≡ all-eight
+    is = sym (h .3) ∙ b
+
+    zero : h .0 ≡ 0
+    zero = ap (λ l. getD l 1 0) is
+
+    all : S ≡ 0 ∷ 1 ∷ 2 ∷ 3 ∷ 4 ∷ 5 ∷ 6 ∷ 7 ∷ []
+    all = sym (append-nil S) ∙ ap (λ l. S ++ l) (sym (h .4)) ∙ ap (drop 2) is
+not-strict (S ∷ (Q ∷ l)) bytes h e b = omega (arith, e)
+
+pub strict-centres : (before : List ℕ) (r : Result) → 30 ≤ length before →
+    Given (strict-plan straight straight) 8 before r → ¬ Answers straight straight before r
+strict-centres before r room g a =
+    not-strict (pieces 8 (g .cutting)) (c .laid) (c .layout) (sym (c .counted) ∙ ap count-of is) laid-is
+  where
+    c : Carries (strict-plan straight straight .centre) (pieces 8 (g .cutting)) before r
+    c = g .carries
+
+    is : r ≡ writing (cutting 1 all-eight) before
+    is = rectangle-is before r room a
+
+    ten : length (c .laid) ≡ 10
+    ten = sym (c .used) ∙ ap (λ (q : Result). q .bytes) is
+
+    laid-is : c .laid ≡ all-eight
+    laid-is =
+        sym (take-at (c .laid) (drop (length (c .laid)) before) 10 ten)
+        ∙ ap (take 10) (sym (c .written) ∙ ap (λ (q : Result). q .after) is)
+        ∙ take-at all-eight (drop 10 before) 10 refl
+
+-- ---- one with invented counts, by any call: "pieces and bytes are those of the told run", and a refusal has none
 module _ (first second : List ℤ) (before : List ℕ) (r : Result) (a : Answers first second before r) where
   pub told-counts : (C : Pairs) → FirstCutting first second C → r .number ≡ 0 →
       (r .count ≡ length (pieces (corners first) C)) × (r .bytes ≡ size (pieces (corners first) C))
@@ -128,6 +182,15 @@ module _ (p : Program) where
   writes-nothing nothing m =
       writing-nothing (blank 10) _ (omega arith) (λ e. omega (arith, e)) (nothing S S (blank 10))
       (m .answers S S (blank 10))
+
+  -- one that has the strict rule for centres too, as 01 alone would have it
+  pub strict-for-centres : ((first second : List ℤ) (before : List ℕ) → p first second before .number ≡ 0 →
+      Given (strict-plan first second) (corners first) before (p first second before)) →
+      ¬ Meets p
+  strict-for-centres strict m =
+      let a = m .answers straight straight (blank 30) in
+      strict-centres (blank 30) _ (omega arith)
+      (strict straight straight (blank 30) (ap number-of (rectangle-is (blank 30) _ (omega arith) a))) a
 
   -- one with invented counts
   module _ (first second : List ℤ) (before : List ℕ) where

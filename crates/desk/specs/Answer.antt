@@ -1,7 +1,7 @@
 -- What comes back for a pair of drawings: document 01, "Cuttings" and "What comes back", whole. This is the demand
--- that the desk is proved against, and what a reader has to believe, with the definitions of `drawing` (a sound
--- drawing, sight), of `pair` (what is asked of two drawings) and of `rules` (cuttings, the one that comes first, the
--- layout of its bytes, numbered lines, what comes back).
+-- that the desk is proved against, and what a reader has to believe, with the definitions of `outline` (a sound
+-- drawing, the two kinds of sight), of `pair` (what is asked of two drawings) and of `rules` (cuttings, the one that
+-- comes first, the layout of its bytes, numbered lines, what comes back).
 use mathlib.Core.List.{List, [], _∷_, _++_}
 use Prim.Native.Nat.{ℕ}
 use lib.IntN.{ℤ}

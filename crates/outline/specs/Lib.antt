@@ -128,8 +128,6 @@ pub mod LeftIn
 -- strict sight brings a centre's, and where nothing stands between they are one; neither outside the angle
 pub mod TwoKinds
 pub mod Outside
--- ---- whole-number rules and renumbering keep a centre's sight
-pub mod Affine
-pub mod Moves
+-- what the angle leaves of a centre's sight: a line that begins with a side; a third corner parts it
 pub mod Begins
 pub mod Third
