@@ -13,7 +13,7 @@ use Rattle.outline.specs.Drawing.{Point, corner, corners}
 use Rattle.outline.specs.InOrOn.{CentreSees}
 use Rattle.outline.specs.Placed.{On}
 use Rattle.outline.specs.Parity.{InOn, out, large}
-use Rattle.outline.specs.ParityRound.{in-back}
+use Rattle.outline.specs.Scale.{in-back}
 use Rattle.outline.specs.EveryPoint.{Sight}
 use Rattle.outline.specs.Reading.{round, round-inner, round-closed, sight-read, sight-said}
 use Rattle.demands.specs.Entered.{Rule, move}

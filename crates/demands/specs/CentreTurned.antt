@@ -14,9 +14,10 @@ use Rattle.outline.specs.Drawing.{Point, corner, corners, next}
 use Rattle.outline.specs.Round.{next-last}
 use Rattle.outline.specs.InOrOn.{CentreSees}
 use Rattle.outline.specs.Placed.{On}
-use Rattle.outline.specs.Parity.{_⊕_, crosses, odd, OnSide, InOn, out, large}
-use Rattle.outline.specs.ParitySide.{⊕-no}
-use Rattle.outline.specs.Through.{⊕-comm}
+use Rattle.outline.specs.Passing.{crosses}
+use Rattle.outline.specs.Odd.{_⊕_}
+use Rattle.outline.specs.Xor.{⊕-no, ⊕-comm}
+use Rattle.outline.specs.Parity.{odd, OnSide, InOn, out, large}
 use Rattle.outline.specs.EveryPoint.{Sight}
 use Rattle.outline.specs.Reading.{round, round-inner, round-closed, sight-read, sight-said}
 use Rattle.demands.specs.Entered.{turned}

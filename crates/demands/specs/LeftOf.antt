@@ -1,7 +1,7 @@
 -- Whether a point z lies left of the line from a to b, by where a and b lie against z in x and in y: Turn(a,b,z) is a
 -- difference of two products of differences from z. And a point that is not on the segment from a to b, though a and b
 -- lie on different sides of it in x or in y, is off the line.
-use mathlib.Core.Path.{_≡_, refl, sym, _∙_, ap, ap₂, subst}
+use mathlib.Core.Path.{_≡_, refl, sym, ap₂, subst}
 use mathlib.Core.Bool.{Bool, true, false, not}
 use mathlib.Core.List.{List, [], _∷_}
 use lib.Dec.{T}
@@ -12,8 +12,8 @@ use Rattle.whole.specs.Order.{Nonneg, Positive, nonneg-add, nonneg-mul, positiv
 use Rattle.whole.specs.Order.{lt-sub, ≤ℤ-<ℤ-trans, Sign, plus, nought, minus, sign}
 use Rattle.outline.specs.Drawing.{Point, Turn}
 use Rattle.outline.specs.Placed.{On, on-of, on-turn}
-use Rattle.outline.specs.Parity.{_⊕_}
-use Rattle.outline.specs.ParitySide.{Ltr, yes-of, no-of}
+use Rattle.outline.specs.Signs.{is-above, above-yes, above-no}
+use Rattle.outline.specs.Odd.{_⊕_}
 
 -- ---- a coordinate y against p, and the signs of products of two differences
 pub data Compared (p y : ℤ) : Bool → Type 0 where
@@ -55,19 +55,19 @@ turn-of = turn (v 2) (v 3) (v 4) (v 5) (v 0) (v 1)
 
 module _ (z a b : Point) where
   pub not-left : Nonneg (negℤ ((a .x -ℤ z .x) *ℤ (b .y -ℤ z .y))) → Nonneg ((a .y -ℤ z .y) *ℤ (b .x -ℤ z .x)) →
-      Ltr (Turn a b z) ≡ false
+      is-above (Turn a b z) ≡ false
   not-left h k =
-      no-of (Turn a b z)
+      above-no (Turn a b z)
       (by-ring (places z a b) Nonneg (neg ((v 2 :- v 0) :* (v 5 :- v 1)) :+ (v 3 :- v 1) :* (v 4 :- v 0)) (neg turn-of)
       refl (nonneg-add h k))
 
   pub left : Nonneg ((a .x -ℤ z .x) *ℤ (b .y -ℤ z .y)) → Nonneg (negℤ ((a .y -ℤ z .y) *ℤ (b .x -ℤ z .x))) →
       ¬ (Turn a b z ≡ pos 0) →
-      Ltr (Turn a b z) ≡ true
+      is-above (Turn a b z) ≡ true
   left h k some = go (sign (Turn a b z))
     where
-      go : Sign (Turn a b z) → Ltr (Turn a b z) ≡ true
-      go (plus t) = yes-of t
+      go : Sign (Turn a b z) → is-above (Turn a b z) ≡ true
+      go (plus t) = above-yes t
       go (nought e) = absurd (some e)
       go (minus t) =
           positive-not t
@@ -75,20 +75,20 @@ module _ (z a b : Point) where
           (neg (neg turn-of)) refl (nonneg-add h k))
 
   -- on the one hand or on the other
-  pub either-hand : ¬ (Turn a b z ≡ pos 0) → Ltr (Turn b a z) ⊕ Ltr (Turn a b z) ≡ true
+  pub either-hand : ¬ (Turn a b z ≡ pos 0) → is-above (Turn b a z) ⊕ is-above (Turn a b z) ≡ true
   either-hand some = go (sign (Turn a b z))
     where
       other : E
       other = turn (v 4) (v 5) (v 2) (v 3) (v 0) (v 1)
 
-      go : Sign (Turn a b z) → Ltr (Turn b a z) ⊕ Ltr (Turn a b z) ≡ true
+      go : Sign (Turn a b z) → is-above (Turn b a z) ⊕ is-above (Turn a b z) ≡ true
       go (plus h) =
-          ap (λ t. t ⊕ Ltr (Turn a b z))
-          (no-of (Turn b a z) (by-ring (places z a b) Nonneg turn-of (neg other) refl (positive-nonneg h))) ∙ yes-of h
+          ap₂ _⊕_ (above-no (Turn b a z) (by-ring (places z a b) Nonneg turn-of (neg other) refl (positive-nonneg h)))
+          (above-yes h)
       go (nought e) = absurd (some e)
       go (minus h) =
-          ap₂ _⊕_ (yes-of (by-ring (places z a b) Positive (neg turn-of) other refl h))
-          (no-of (Turn a b z) (positive-nonneg h))
+          ap₂ _⊕_ (above-yes (by-ring (places z a b) Positive (neg turn-of) other refl h))
+          (above-no (Turn a b z) (positive-nonneg h))
 
   -- ---- z on the line through a and b, and between them in x or in y: it is on the segment
   on-by-x : a .x ≤ℤ z .x → z .x <ℤ b .x → Turn a b z ≡ pos 0 → On z a b

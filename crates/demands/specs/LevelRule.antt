@@ -10,9 +10,10 @@ use Rattle.whole.specs.Ring.{v, con, _:+_, _:-_, _:*_, ring1, ring2}
 use Rattle.whole.specs.Order.{Positive}
 use Rattle.outline.specs.Drawing.{Point, Turn}
 use Rattle.outline.specs.Placed.{On, Frac, on-of, frac-of}
-use Rattle.outline.specs.Parity.{_⊕_, higher, passes, crosses, odd, InOn}
-use Rattle.outline.specs.ParitySide.{Ltr}
-use Rattle.outline.specs.ParityRound.{Ltr-scale, ltZ-sub}
+use Rattle.outline.specs.Signs.{is-above, lt-above, above-scale}
+use Rattle.outline.specs.Passing.{higher, passes, crosses}
+use Rattle.outline.specs.Odd.{_⊕_}
+use Rattle.outline.specs.Parity.{odd, InOn}
 use Rattle.demands.specs.Entered.{Rule}
 use Rattle.demands.specs.MovedPoints.{factor, image, numbers, image-y, turn-moved}
 
@@ -44,19 +45,19 @@ on-moved t z p q o = on-of (record {
 module _ (t : Rule) (level : t .c ≡ pos 0) (tall : Positive (t .d)) where
   higher-kept : (z p : Point) → higher (image t z) (image t p) ≡ higher z p
   higher-kept z p =
-      ltZ-sub (image t z .y) (image t p .y)
-      ∙ ap Ltr (ring1 (numbers t (z .x ∷ z .y ∷ p .x ∷ p .y ∷ []))
+      lt-above (image t z .y) (image t p .y)
+      ∙ ap is-above (ring1 (numbers t (z .x ∷ z .y ∷ p .x ∷ p .y ∷ []))
       (image-y (v 8) (v 9) :- image-y (v 6) (v 7)) (v 3 :* (v 9 :- v 7)) (v 8 :- v 6) (v 2) (con (pos 0)) level refl)
-      ∙ Ltr-scale (t .d) (p .y -ℤ z .y) tall
-      ∙ sym (ltZ-sub (z .y) (p .y))
+      ∙ above-scale (t .d) (p .y -ℤ z .y) tall
+      ∙ sym (lt-above (z .y) (p .y))
 
-  left-kept : (p q z : Point) → Ltr (Turn (image t p) (image t q) (image t z)) ≡ Ltr (Turn p q z)
-  left-kept p q z = ap Ltr (turn-moved t p q z) ∙ Ltr-scale (factor t) (Turn p q z) (t .above)
+  left-kept : (p q z : Point) → is-above (Turn (image t p) (image t q) (image t z)) ≡ is-above (Turn p q z)
+  left-kept p q z = ap is-above (turn-moved t p q z) ∙ above-scale (factor t) (Turn p q z) (t .above)
 
   crosses-kept : (z p q : Point) → crosses (image t z) (image t p) (image t q) ≡ crosses z p q
   crosses-kept z p q =
-      ap₂ (λ h k. passes h k (Ltr (Turn (image t p) (image t q) (image t z)))
-      (Ltr (Turn (image t q) (image t p) (image t z))))
+      ap₂ (λ h k. passes h k (is-above (Turn (image t p) (image t q) (image t z)))
+      (is-above (Turn (image t q) (image t p) (image t z))))
       (higher-kept z p) (higher-kept z q)
       ∙ ap₂ (passes (higher z p) (higher z q)) (left-kept p q z) (left-kept q p z)
 

@@ -21,11 +21,13 @@ use lib.Signed.{ltZ}
 use Rattle.whole.specs.Ring.{v, con, _:-_, _:*_, neg, ring, ring1}
 use Rattle.outline.specs.Drawing.{Point, Turn}
 use Rattle.outline.specs.Placed.{On, Frac, on-of, frac-of, on-turn}
-use Rattle.outline.specs.Parity.{_⊕_, passes, crosses, odd, OnSide, InOn}
-use Rattle.outline.specs.ParitySide.{Ltr, ⊕-no, ⊕-same}
-use Rattle.outline.specs.ParityRound.{⊕-swap, ⊕-chain, ⊕-zero}
-use Rattle.outline.specs.Between.{Decide, on-side-dec}
-use Rattle.outline.specs.Through.{⊕-comm}
+use Rattle.outline.specs.Tells.{Decide}
+use Rattle.outline.specs.Signs.{is-above}
+use Rattle.outline.specs.Passing.{passes, crosses}
+use Rattle.outline.specs.Odd.{_⊕_}
+use Rattle.outline.specs.Xor.{⊕-no, ⊕-same, ⊕-zero, ⊕-comm, ⊕-swap, ⊕-chain}
+use Rattle.outline.specs.Parity.{odd, OnSide, InOn}
+use Rattle.outline.specs.OnTest.{on-side-dec}
 use Rattle.demands.specs.LeftOf.{Compared, more, upto, compared, alike, unlike, places, turn, turn-of}
 use Rattle.demands.specs.LeftOf.{not-left, left, either-hand, off-by-x, off-by-y}
 
@@ -44,10 +46,10 @@ in-between z k = between (ltZ (z .y) (k .y)) (ltZ (z .x) (k .x))
 module _ (z a b : Point) (off : ¬ On z a b) where
   -- z is left of the side as it goes from a to b; as it goes from b to a
   abbrev there : Bool
-  there = Ltr (Turn a b z)
+  there = is-above (Turn a b z)
 
   abbrev back : Bool
-  back = Ltr (Turn b a z)
+  back = is-above (Turn b a z)
 
   off′ : ¬ On z b a
   off′ o = off (on-turn o)
@@ -90,7 +92,7 @@ module _ (z a b : Point) (off : ¬ On z a b) where
   side-turned : crosses z a b ⊕ crosses (quarter z) (quarter a) (quarter b) ≡ in-between z a ⊕ in-between z b
   unfolding in-between
   side-turned =
-      ap₂ (λ s t. crosses z a b ⊕ passes (ltZ (z .x) (a .x)) (ltZ (z .x) (b .x)) (Ltr s) (Ltr t))
+      ap₂ (λ s t. crosses z a b ⊕ passes (ltZ (z .x) (a .x)) (ltZ (z .x) (b .x)) (is-above s) (is-above t))
       (turn-quarter a b) (turn-quarter b a)
       ∙ by-quarters (compared (z .y) (a .y)) (compared (z .x) (a .x)) (compared (z .y) (b .y)) (compared (z .x) (b .x))
 

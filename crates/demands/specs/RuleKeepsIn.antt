@@ -11,7 +11,7 @@ use Rattle.whole.specs.Order.{Positive, positive-pos, positive-nonneg, positive
 use Rattle.whole.specs.Order.{Sign, plus, nought, minus, sign}
 use Rattle.outline.specs.Drawing.{Point}
 use Rattle.outline.specs.Parity.{InOn, out, large}
-use Rattle.outline.specs.ParityRound.{in-back}
+use Rattle.outline.specs.Scale.{in-back}
 use Rattle.demands.specs.Entered.{Rule}
 use Rattle.demands.specs.MovedPoints.{factor, image, numbers, factor-of, image-x, image-y}
 use Rattle.demands.specs.QuarterTurn.{quarter, in-quarter}

@@ -7,7 +7,9 @@ use native.Mathlib.Omega.{arith}
 use native.Mathlib.Nat.{le-refl}
 use Rattle.outline.specs.Drawing.{Point}
 use Rattle.outline.specs.Placed.{On}
-use Rattle.outline.specs.Parity.{_⊕_, crosses, odd, InOn, out, large}
+use Rattle.outline.specs.Passing.{crosses}
+use Rattle.outline.specs.Odd.{_⊕_}
+use Rattle.outline.specs.Parity.{odd, InOn, out, large}
 use Rattle.outline.specs.EveryPoint.{Sight}
 
 -- corners 0 to n
