@@ -21,7 +21,7 @@ use Rattle.outline.specs.Way.{CrossedBy, GrazedBy}
 segment-of : {z a b : Point} → On z a b → OnSegment (spot z) a b
 segment-of o = on-of (o .line) (on-dot o)
 
-apart-of : {s t : ℤ} → Opposite s t → Apart s t
+pub apart-of : {s t : ℤ} → Opposite s t → Apart s t
 apart-of (inl h) = inl (h .0, below (h .1))
 apart-of (inr h) = inr (below (h .0), h .1)
 

@@ -39,10 +39,10 @@ lone i j a b s on off = go (≤ℤ-total (Dot a i j) (pos 0)) (sign (Turn i j b)
     go (inr h) (nought e) = absurd (off e)
 
 -- an end of one lies on the other, or a and b lie on the two sides of ij
-abbrev Meets : Point → Point → Point → Point → Type 0
+abbrev pub Meets : Point → Point → Point → Point → Type 0
 Meets i j a b = (On a i j ⊎ On b i j) ⊎ ((On i a b ⊎ On j a b) ⊎ Opposite (Turn i j a) (Turn i j b))
 
-how-met : (i j a b : Point) → ¬ (i ≡ j) → Shared i j a b → Meets i j a b
+pub how-met : (i j a b : Point) → ¬ (i ≡ j) → Shared i j a b → Meets i j a b
 how-met i j a b ij s = go (sign (Turn i j a)) (sign (Turn i j b))
   where
     flat : Turn i j a ≡ pos 0 → Turn i j b ≡ pos 0 → Touch i j a b → Meets i j a b
@@ -70,7 +70,7 @@ how-met i j a b ij s = go (sign (Turn i j a)) (sign (Turn i j b))
 
 -- ---- two segments eo and em, with neither other end on the other segment: on one line they point away from each
 -- other, for of three points on a line one lies on the segment of the others
-away : (e o m : Point) → ¬ On m e o → ¬ On o e m → OnlyEnd e o m
+pub away : (e o m : Point) → ¬ On m e o → ¬ On o e m → OnlyEnd e o m
 away e o m off-m off-o t = go (≤ℤ-total (Dot e o m) (pos 0)) (≤ℤ-total (Dot o m e) (pos 0))
   where
     go : (Dot e o m ≤ℤ pos 0) ⊎ (pos 0 <ℤ Dot e o m) → (Dot o m e ≤ℤ pos 0) ⊎ (pos 0 <ℤ Dot o m e) →

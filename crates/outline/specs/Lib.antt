@@ -125,9 +125,8 @@ pub mod FreeSight
 pub mod AtCorner
 pub mod HalfWay
 pub mod LeftIn
--- strict sight brings a centre's, and where nothing stands between they are one; neither outside the angle
+-- strict sight brings a centre's, and where nothing stands between they are one
 pub mod TwoKinds
-pub mod Outside
 -- what the angle leaves of a centre's sight: a line that begins with a side; a third corner parts it
 pub mod Begins
 pub mod Third

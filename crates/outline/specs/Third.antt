@@ -3,23 +3,25 @@
 --
 --     i ------- k --- j
 use mathlib.Core.Path.{_≡_, refl, sym, _∙_, ap, subst}
-use mathlib.Core.Logic.{_⊎_, inl, inr, _↔_}
-use mathlib.Core.List.{List, [], _∷_}
+use mathlib.Core.Logic.{inl, inr, _↔_}
+use mathlib.Core.List.{List}
 use Prim.Native.Nat.{ℕ, _<_}
+use native.Mathlib.Omega.{arith}
 use lib.Dec.{ltb→lt}
-use lib.IntN.{ℤ, pos, negsuc, natAbs, _-ℤ_}
-use lib.Signed.{_<ℤ_, <ℤ-irrefl}
-use Rattle.whole.specs.Ring.{E, v, con, _:+_, _:-_, _:*_, ring1, ring}
-use Rattle.whole.specs.Order.{Nonneg, Positive, positive-mul, positive-add, positive-cancel, positive-nonneg}
-use Rattle.whole.specs.Order.{nonneg-add, lt-sub, sub-lt, square-nonneg}
-use Rattle.outline.specs.Drawing.{Point, Simple, corner, corners, after, EndsAt, Beside, Sees}
+use lib.IntN.{ℤ, pos, negsuc, natAbs}
+use lib.Signed.{_<ℤ_}
+use Rattle.whole.specs.Ring.{_:+_, _:-_, ring, by-ring}
+use Rattle.whole.specs.Order.{Nonneg, Positive, positive-add, nonneg-add, le-sub, sub-lt}
+use Rattle.outline.specs.Drawing.{Point, Simple, corner, corners, EndsAt, Beside, Sees}
 use Rattle.outline.specs.InOrOn.{CentreSees}
-use Rattle.outline.specs.Placed.{On, on-turn}
-use Rattle.outline.specs.Stretch.{len2}
-use Rattle.outline.specs.Between.{along-low}
-use Rattle.outline.specs.CentreTest.{corners-apart, sees-parts, parts-see, apart-on, before-j}
+use Rattle.outline.specs.Segments.{dot-nonneg}
+use Rattle.outline.specs.Spell.{A, B, C, O, env4, DotE}
+use Rattle.outline.specs.Placed.{On, on-turn, on-dot}
+use Rattle.outline.specs.Along.{len2, apart-length}
+use Rattle.outline.specs.CornersApart.{corners-apart}
+use Rattle.outline.specs.CentreParts.{sees-parts, parts-see}
 use Rattle.outline.specs.Way.{GrazedBy}
-use Rattle.outline.specs.OneLook.{foreign, grazed-unseen}
+use Rattle.outline.specs.Barred.{off-side, grazed-unseen}
 
 -- ---- shorter
 abs-less : (a b : ℤ) → Nonneg a → a <ℤ b → natAbs a < natAbs b
@@ -27,38 +29,19 @@ abs-less (pos m) (pos n) h k = ltb→lt m n (k .lt)
 abs-less (pos m) (negsuc n) h k = absurd (k .lt)
 abs-less (negsuc m) b h k = absurd (h .le)
 
--- |ij|^2 |ik|^2 is the square of their product, which is below |ij|^2
-shorter : (i k j : Point) → On k i j → ¬ (i ≡ k) → ¬ (k ≡ j) → natAbs (len2 i k) < natAbs (len2 i j)
-shorter i k j o ik kj =
-    abs-less (len2 i k) (len2 i j) (nonneg-add (square-nonneg (k .x -ℤ i .x)) (square-nonneg (k .y -ℤ i .y)))
-    (sub-lt (positive-cancel (positive-nonneg whole)
-    (subst Positive (ring1 (i .x ∷ i .y ∷ k .x ∷ k .y ∷ j .x ∷ j .y ∷ []) ((N :- S) :* (N :+ S)) (N :* (N :- L)) T T
-    (con (pos 0)) (o .line) refl)
-    (positive-mul (lt-sub (before-j k i k j o o ik kj)) (positive-add whole (along-low k i j o))))))
-  where
-    whole : Positive (len2 i j)
-    whole = apart-on k i k j o o ik kj
-
-    N : E
-    N = (v 4 :- v 0) :* (v 4 :- v 0) :+ (v 5 :- v 1) :* (v 5 :- v 1)
-
-    L : E
-    L = (v 2 :- v 0) :* (v 2 :- v 0) :+ (v 3 :- v 1) :* (v 3 :- v 1)
-
-    S : E
-    S = (v 2 :- v 0) :* (v 4 :- v 0) :+ (v 3 :- v 1) :* (v 5 :- v 1)
-
-    T : E
-    T = (v 4 :- v 0) :* (v 3 :- v 1) :- (v 5 :- v 1) :* (v 2 :- v 0)
+-- the angle at k is straight, so |ij|^2 is at least |ik|^2 + |kj|^2
+shorter : (i k j : Point) → On k i j → ¬ (k ≡ j) → natAbs (len2 i k) < natAbs (len2 i j)
+shorter i k j o kj =
+    abs-less (len2 i k) (len2 i j) (dot-nonneg i k)
+    (sub-lt (by-ring (env4 i k j j) Positive (DotE B C C :+ ((O :- DotE B A C) :+ (O :- DotE B A C)))
+    (DotE A C C :- DotE A B B) refl
+    (positive-add (apart-length k j kj) (nonneg-add (le-sub (on-dot o)) (le-sub (on-dot o))))))
 
 length-turned : (a b : Point) → len2 a b ≡ len2 b a
-length-turned a b =
-    ring (a .x ∷ a .y ∷ b .x ∷ b .y ∷ []) ((v 2 :- v 0) :* (v 2 :- v 0) :+ (v 3 :- v 1) :* (v 3 :- v 1))
-    ((v 0 :- v 2) :* (v 0 :- v 2) :+ (v 1 :- v 3) :* (v 1 :- v 3)) refl
+length-turned a b = ring (env4 a b b b) (DotE A B B) (DotE B A A) refl
 
 no-length : (a : Point) → len2 a a ≡ pos 0
-no-length a =
-    ring (a .x ∷ a .y ∷ []) ((v 0 :- v 0) :* (v 0 :- v 0) :+ (v 1 :- v 1) :* (v 1 :- v 1)) (con (pos 0)) refl
+no-length a = ring (env4 a a a a) (DotE A A A) O refl
 
 -- the square of the length of ij
 abbrev pub long : List ℤ → ℕ → ℕ → ℕ
@@ -73,13 +56,13 @@ module _ (d : List ℤ) (simple : Simple d) (i j k : ℕ) (hi : i < corners d) (
   K≠J = corners-apart d simple k j (g .below) hj (g .not-j)
 
   pub first-shorter : long d i k < long d i j
-  first-shorter = shorter (corner d i) (corner d k) (corner d j) (g .on) I≠K K≠J
+  first-shorter = shorter (corner d i) (corner d k) (corner d j) (g .on) K≠J
 
   pub second-shorter : long d k j < long d i j
   second-shorter =
       subst (λ z. natAbs z < long d i j) (length-turned (corner d j) (corner d k))
       (subst (λ z. natAbs (len2 (corner d j) (corner d k)) < natAbs z) (length-turned (corner d j) (corner d i))
-      (shorter (corner d j) (corner d k) (corner d i) (on-turn (g .on)) (λ e. K≠J (sym e)) (λ e. I≠K (sym e))))
+      (shorter (corner d j) (corner d k) (corner d i) (on-turn (g .on)) (λ e. I≠K (sym e))))
 
   -- ---- the two kinds of sight
   pub third-parts : CentreSees d i j ↔ (CentreSees d i k × CentreSees d k j)
@@ -87,21 +70,17 @@ module _ (d : List ℤ) (simple : Simple d) (i j k : ℕ) (hi : i < corners d) (
 
   -- no third corner lies on a side
   third-apart : ¬ Beside d i j
-  third-apart (inl e) = <ℤ-irrefl (subst Positive (no-length (corner d i)) (subst (λ m. Long m) (sym e) whole))
-    where
-      Long : ℕ → Type 0
-      Long m = Positive (len2 (corner d i) (corner d m))
-
-      whole : Long j
-      whole = apart-on (corner d k) (corner d i) (corner d k) (corner d j) (g .on) (g .on) I≠K K≠J
+  third-apart (inl e) =
+      let none : long d i j ≡ 0 = ap (long d i) (sym e) ∙ ap natAbs (no-length (corner d i)) in
+      omega (arith, first-shorter, none)
   third-apart (inr (inl e)) =
-      foreign d simple k i (g .below) hi ends (subst (λ m. On (corner d k) (corner d i) (corner d m)) (sym e) (g .on))
+      off-side d simple k i (g .below) hi ends (subst (λ m. On (corner d k) (corner d i) (corner d m)) (sym e) (g .on))
     where
       ends : ¬ EndsAt d i k
       ends (inl f) = g .not-i (sym f)
       ends (inr f) = g .not-j (sym f ∙ e)
   third-apart (inr (inr e)) =
-      foreign d simple k j (g .below) hj ends
+      off-side d simple k j (g .below) hj ends
       (on-turn (subst (λ m. On (corner d k) (corner d m) (corner d j)) (sym e) (g .on)))
     where
       ends : ¬ EndsAt d j k
