@@ -4,13 +4,13 @@ use mathlib.Core.Path.{_≡_, refl, sym, ap, subst, _∙_}
 use mathlib.Core.Bool.{Bool, true, false}
 use mathlib.Core.Logic.{inl, inr, _↔_}
 use mathlib.Core.List.{List, _++_}
-use Prim.Native.Nat.{ℕ, zero, suc, _+_, _-_, _*_, _<_, _≤_}
+use Prim.Native.Nat.{ℕ, zero, _+_, _-_, _<_, _≤_}
 use native.Mathlib.Omega.{arith}
 use native.Mathlib.Decide.{decLt}
 use lib.Dec.{T}
 use lib.ListN.{length, getD, take, drop, take-append-drop, List·getD-eq-default, List·getD-append}
 use lib.Seq.{length-take-le, length-front, getD-append-add, getD-drop}
-use Rattle.limits.specs.Limits.{fewest-corners, most-corners, row, all-cells, place}
+use Rattle.limits.specs.Limits.{row, all-cells, place}
 use Rattle.rules.specs.Cutting.{Pairs, Inner}
 use Rattle.rules.specs.Cells.{cell, InBoth, marked, marked-cell, marked-same}
 use Rattle.rules.specs.Plan.{stars, FirstBy}

@@ -10,9 +10,9 @@ use Rattle.rules.specs.Cutting.{one}
 use Rattle.limits.specs.Limits.{row}
 use Rattle.cutting.specs.Rows.{none}
 use Rattle.rules.specs.Columns.{costs}
-use Rattle.rules.specs.Choice.{Sought, stepOf, nextOf, restOf, fits, less, better, pickFrom, pickOf}
+use Rattle.rules.specs.Choice.{Sought, restOf, fits, less, better, pickFrom, pickOf}
 use Rattle.rules.specs.Cells.{cell}
-use Rattle.cutting.specs.Tracing.{nextIn, restIn, fitsIn, betterIn, pickIn, Next}
+use Rattle.cutting.specs.Tracing.{nextIn, restIn, Next}
 use Rattle.rules.specs.Seek.{sought-unique, step-is, next-left, next-right}
 use Rattle.rules.specs.Follow.{next-goes, rest-next, Goes}
 

@@ -4,27 +4,27 @@ use mathlib.Core.Path.{_≡_, refl, sym, ap, subst, _∙_}
 use mathlib.Core.Bool.{true, false}
 use mathlib.Core.Logic.{_⊎_, inl, inr, ⊎-elim}
 use mathlib.Core.List.{List}
-use Prim.Native.Nat.{ℕ, zero, suc, _+_, _-_, _*_, _<_, _≤_}
+use Prim.Native.Nat.{ℕ, suc, _+_, _-_, _*_, _<_, _≤_}
 use native.Mathlib.Omega.{arith}
 use native.Mathlib.Decide.{decLt, ℕ-discrete}
 use lib.Dec.{T}
-use lib.ListN.{length, getD, set}
+use lib.ListN.{getD, set}
 use lib.Seq.{getD-set-same, getD-set-other}
-use Rattle.limits.specs.Limits.{row, all-cells, place}
+use Rattle.limits.specs.Limits.{row, place}
 use Rattle.rules.specs.Cutting.{Pairs, First, Valid, one}
 use Rattle.rules.specs.Centre.{HasCentre}
 use Rattle.rules.specs.Cells.{cell, marked}
-use Rattle.rules.specs.Table.{Table, Closes}
+use Rattle.rules.specs.Table.{Table}
 use Rattle.rules.specs.Answer.{table-refuses}
-use Rattle.rules.specs.Columns.{Column, Columned, Light, Solved}
+use Rattle.rules.specs.Columns.{Columned, Solved}
 use Rattle.rules.specs.Choice.{choiceOf}
-use Rattle.rules.specs.Traced.{Whole, Traced}
+use Rattle.rules.specs.Traced.{Whole}
 use Rattle.rules.specs.Small.{best-of, min-low}
 use Rattle.rules.specs.Ways.{Sees}
 use Rattle.rules.specs.Picks.{table}
 use Rattle.rules.specs.Trace.{traced-first}
 use Rattle.cutting.specs.Rows.{none, Cut, Veil, Lines, Rights, Filled}
-use Rattle.cutting.specs.Tracing.{Ticks, Started, Tracing, Solves, Drawn, Finds}
+use Rattle.cutting.specs.Tracing.{Started, Tracing, Solves, Drawn, Finds}
 use Rattle.cutting.proofs.Values.{clash}
 use Rattle.cutting.proofs.Marking.{marked-says, same-marked, ticks-set}
 use Rattle.cutting.proofs.Traced.{traced-seen}

@@ -1,9 +1,8 @@
 -- Laws of the set of pairs as it grows.
 use mathlib.Core.Path.{_≡_, refl, sym, ap, subst, _∙_}
-use mathlib.Core.Bool.{Bool, true, false}
 use mathlib.Core.Logic.{_⊎_, inl, inr, ⊎-elim}
 use mathlib.Core.List.{List, [], _∷_}
-use Prim.Native.Nat.{ℕ, zero, suc, _+_, _-_, _*_, _<_, _≤_}
+use Prim.Native.Nat.{ℕ, zero, suc, _+_, _-_, _<_, _≤_}
 use native.Mathlib.Omega.{arith}
 use native.Mathlib.Decide.{decLt, ℕ-discrete}
 use lib.Dec.{T}
@@ -11,7 +10,7 @@ use lib.ListN.{length, getD, set, length-set, List·getD-eq-default}
 use borrow.Author.Count.{below-more}
 use lib.Seq.{getD-set-same, getD-set-other}
 use Rattle.limits.specs.Limits.{row, all-cells, place}
-use Rattle.rules.specs.Cells.{cell, marked, filled, filled-is, marked-wide, marked-small, marked-is, marked-other}
+use Rattle.rules.specs.Cells.{cell, marked, filled-is, marked-wide, marked-small, marked-is}
 use Rattle.rules.specs.Traced.{LineOfRoad}
 use Rattle.cutting.specs.Tracing.{Ticks, Ticked, Marked, Cleared, Started}
 

@@ -1,9 +1,9 @@
 -- Laws of the two readings as they are made.
 use mathlib.Core.Path.{_≡_, refl, sym, ap, subst, _∙_}
 use mathlib.Core.List.{List}
-use Prim.Native.Nat.{ℕ, zero, suc, _+_, _*_, _<_, _≤_}
+use Prim.Native.Nat.{ℕ, zero, suc, _+_, _<_, _≤_}
 use native.Mathlib.Omega.{arith}
-use native.Mathlib.Decide.{decLt, ℕ-discrete}
+use native.Mathlib.Decide.{ℕ-discrete}
 use borrow.Author.Count.{below-more}
 use lib.ListN.{length, getD, set, replicate, length-set, length-replicate}
 use lib.Seq.{getD-set-same, getD-set-other}
@@ -53,7 +53,7 @@ pub reading-more : {first second cuts veil cuts′ veil′ : List ℕ} {n y x c 
     Reading first second cuts veil n y x → c ≡ cut-by (cell first x y) (cell second x y) →
     z ≡ veil-by (cell first x y) (cell second x y) → cuts′ ≡ set cuts (place x y) c → veil′ ≡ set veil (place y x) z →
     Reading first second cuts′ veil′ n y (x + 1)
-reading-more {first} {second} {cuts} {veil} {n} {y} {x} {c} {z} nr yn xn r k l e f =
+reading-more {first} {second} {cuts} {veil} {n} {y} {x} {c} {z} nr yn xn r cut-is lane-is e f =
     let w = r .done .veils .size in
     let cut-other = cell-other cuts x y c (r .done .cuts-size) (omega arith) (omega arith) in
     let lane-other = cell-other veil y x z w (omega arith) (omega arith) in
@@ -69,11 +69,11 @@ reading-more {first} {second} {cuts} {veil} {n} {y} {x} {c} {z} nr yn xn r k l e
       cut =
           below-more _ _
           (λ p px. cut-other p y (omega arith) (omega arith) (λ k. omega (arith, k .0)) ∙ r .cut p px)
-          (cell-same cuts x y c (r .done .cuts-size) (omega arith) (omega arith) ∙ k);
+          (cell-same cuts x y c (r .done .cuts-size) (omega arith) (omega arith) ∙ cut-is);
       lane =
           below-more _ _
           (λ p px. lane-other y p (omega arith) (omega arith) (λ k. omega (arith, k .1)) ∙ r .lane p px)
-          (cell-same veil y x z w (omega arith) (omega arith) ∙ l);
+          (cell-same veil y x z w (omega arith) (omega arith) ∙ lane-is);
     }
 
 pub reading-end : {first second cuts veil : List ℕ} {n y t : ℕ} → Reading first second cuts veil n y t → t ≡ n →

@@ -2,8 +2,8 @@
 use mathlib.Core.Path.{_≡_, refl, sym, ap, subst, _∙_}
 use mathlib.Core.Bool.{Bool, true, false}
 use mathlib.Core.Logic.{_⊎_, inl, inr, ⊎-elim}
-use mathlib.Core.List.{List, [], _∷_}
-use Prim.Native.Nat.{ℕ, zero, suc, _+_, _-_, _*_, _<_, _≤_}
+use mathlib.Core.List.{List}
+use Prim.Native.Nat.{ℕ, suc, _+_, _-_, _<_, _≤_}
 use native.Mathlib.Omega.{arith}
 use native.Mathlib.Decide.{decLt}
 use borrow.Author.Tests.{lt-ltb}
@@ -23,7 +23,7 @@ use Rattle.rules.specs.Traced.{LineOfRoad, Whole, Traced}
 use Rattle.rules.specs.Trace.{line-narrow}
 use Rattle.cutting.specs.Rows.{none, Cut, LaneOf}
 use Rattle.cutting.specs.Tracing.{restIn, fitsIn, pickIn, EveryIn, LowestFit}
-use Rattle.cutting.specs.Tracing.{Lanes, Ticks, Marked, Ahead, Tracing}
+use Rattle.cutting.specs.Tracing.{Lanes, Marked, Ahead, Tracing}
 use Rattle.cutting.proofs.Marking.{marked-says}
 use Rattle.cutting.proofs.Values.{clash}
 

@@ -1,5 +1,5 @@
 -- `search`: what is not served, and the first part of the array.
-use mathlib.Core.Path.{sym, _∙_}
+use mathlib.Core.Path.{sym}
 use native.Mathlib.Omega.{arith}
 use borrow.Author.Needs.{needs}
 use Rattle.cutting.specs.Answer.{Served}
