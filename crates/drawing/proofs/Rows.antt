@@ -14,7 +14,7 @@ use Rattle.outline.specs.Drawing.{Sound, corners, Angle, Beside}
 use Rattle.outline.specs.InOrOn.{CentreSees}
 use Rattle.outline.specs.Seeing.{beside-back, beside-or}
 use Rattle.outline.specs.CentreSight.{centre-mutual}
-use Rattle.outline.specs.Begins.{Begins, faces}
+use Rattle.outline.specs.Begins.{Begins, inside-or-along}
 use Rattle.drawing.specs.Table.{Early, RowsDone, Grows, Decided}
 use Rattle.drawing.specs.Known.{FacedBy}
 use Rattle.drawing.proofs.Growing.{grows-on, grows-in, grows-as}
@@ -51,7 +51,7 @@ module _ {d : List ℤ} (sound : Sound d) {i : ℕ} (hi : i < corners d) where
 
           go : Beside d q i ⊎ (¬ Beside d q i) → Early d q i
           go (inl b) = inl b
-          go (inr n) = told (faces d sound q i hq hi n s)
+          go (inr n) = told (inside-or-along d sound q i hq hi n s)
 
       start : (p q : ℕ) → p < corners d → q < corners d → RowDone d i (f / 2 ^ i) p q → CentreSees d p q →
           RowsDone d i p q

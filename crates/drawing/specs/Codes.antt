@@ -13,7 +13,7 @@ use Rattle.outline.specs.Placed.{on-turn}
 use Rattle.outline.specs.Way.{GrazedBy}
 use Rattle.outline.specs.Seeing.{sees-mutual}
 use Rattle.outline.specs.CentreSight.{centre-mutual, centre-beside}
-use Rattle.outline.specs.Kinds.{strict-centre}
+use Rattle.outline.specs.TwoKinds.{strict-centre}
 use Rattle.outline.specs.Third.{third-unseen, third-parts}
 use Rattle.drawing.specs.Sight.{Cell}
 use Rattle.drawing.specs.Table.{Grazed, Code}

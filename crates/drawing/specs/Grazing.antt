@@ -12,34 +12,31 @@ use Rattle.whole.specs.Ring.{v, con, _:-_, neg, ring, ring1, by-ring}
 use Rattle.whole.specs.Order.{Positive, below, lt-sub}
 use Rattle.outline.specs.Drawing.{Point, Simple, corner, corners, after, Turn, EndsAt, Angle, Shared}
 use Rattle.outline.specs.InOrOn.{CentreSees}
+use Rattle.outline.specs.Tells.{decided}
 use Rattle.outline.specs.Segments.{Apart, Dot}
 use Rattle.outline.specs.Spell.{A, B, C, O, I, env4, TurnE, DotE}
 use Rattle.outline.specs.Against.{no-angle}
 use Rattle.outline.specs.Round.{next-below}
-use Rattle.outline.specs.Placed.{On, on-turn}
-use Rattle.outline.specs.Stretch.{Opposite}
-use Rattle.outline.specs.Between.{on-dec}
-use Rattle.outline.specs.CentreTest.{corners-apart, sees-clear}
-use Rattle.outline.specs.CentreMirror.{dot-on}
+use Rattle.outline.specs.Placed.{On, on-turn, dot-on}
+use Rattle.outline.specs.OnTest.{on-tells}
+use Rattle.outline.specs.Crossing.{Opposite}
+use Rattle.outline.specs.CornersApart.{corners-apart}
+use Rattle.outline.specs.CentreMiddle.{sees-clear}
 use Rattle.outline.specs.Way.{GrazedBy}
 use Rattle.outline.specs.Third.{first-shorter}
-use Rattle.outline.specs.OneLook.{foreign, how-met, away}
+use Rattle.outline.specs.Barred.{off-side, apart-of}
+use Rattle.outline.specs.FreeSight.{how-met, away}
 use Rattle.drawing.specs.Known.{Open, Along, MeetsSide, TouchedSide}
 use Rattle.drawing.specs.Looking.{open-ends}
 use Rattle.drawing.specs.declared.segment.Met.the-variants as is
 
--- ---- the turns of a side that is met across, as the law of centres has them
-raised : {z : ℤ} → z <ℤ pos 0 → Positive (negℤ z)
-raised {z} h = by-ring (z ∷ []) Positive (con (pos 0) :- v 0) (neg (v 0)) refl (lt-sub h)
+-- the turns of a side that is met across, as the law of centres has them
+above : {z : ℤ} → z <ℤ pos 0 → Positive (negℤ z)
+above {z} h = by-ring (z ∷ []) Positive (con (pos 0) :- v 0) (neg (v 0)) refl (lt-sub h)
 
 opposite : {s t : ℤ} → Apart s t → Opposite s t
-opposite (inl h) = inl (h .0, raised (h .1))
-opposite (inr h) = inr (raised (h .0), h .1)
-
--- Opposite turns are apart
-apart-of : {s t : ℤ} → Opposite s t → Apart s t
-apart-of (inl h) = inl (h .0, below (h .1))
-apart-of (inr h) = inr (below (h .0), h .1)
+opposite (inl h) = inl (h .0, above (h .1))
+opposite (inr h) = inr (above (h .0), h .1)
 
 -- a corner inside the angle at i is not at i
 pub inside-apart : (d : List ℤ) (i j : ℕ) → Angle d i j → ¬ (corner d i ≡ corner d j)
@@ -74,7 +71,7 @@ module _ (d : List ℤ) (simple : Simple d) (i j k : ℕ) (hi : i < corners d) (
       below = next-below (corners d) k hk;
       not-i = λ e. not-i (inr e);
       not-j = λ e. not-j (inr e);
-      on = go (how-met _ _ _ _ (t .touches .0) (t .differ) (simple .two-ends k hk));
+      on = go (how-met _ _ _ _ (t .differ) (t .touches .0));
     }
       where
         Ends : Point → Type 0
@@ -88,8 +85,8 @@ module _ (d : List ℤ) (simple : Simple d) (i j k : ℕ) (hi : i < corners d) (
             → Ends (corner d (after d k))
         go (inl (inl o)) = absurd (n o)
         go (inl (inr o)) = o
-        go (inr (inl (inl o))) = absurd (foreign d simple i k hi hk not-i o)
-        go (inr (inl (inr o))) = absurd (foreign d simple j k hj hk not-j o)
+        go (inr (inl (inl o))) = absurd (off-side d simple i k hi hk not-i o)
+        go (inr (inl (inr o))) = absurd (off-side d simple j k hj hk not-j o)
         go (inr (inr x)) = absurd (t .touches .1 (apart-of x))
 
 -- ---- a corner i on the line of side k, and no end of it
@@ -99,9 +96,6 @@ module _ (d : List ℤ) (simple : Simple d) (i k : ℕ) (hi : i < corners d) (hk
 
   hm : after d k < corners d
   hm = next-below (corners d) k hk
-
-  pub i≠k : ¬ (corner d i ≡ corner d k)
-  i≠k = corners-apart d simple i k hi hk (λ e. a .1 (inl (sym e)))
 
   pub i≠m : ¬ (corner d i ≡ corner d (after d k))
   i≠m = corners-apart d simple i (after d k) hi hm (λ e. a .1 (inr (sym e)))
@@ -119,7 +113,7 @@ module _ (d : List ℤ) (simple : Simple d) (i k : ℕ) (hi : i < corners d) (hk
     below = hm;
     not-i = λ e. a .1 (inr e);
     not-j = λ e. k≠m (sym e);
-    on = on-turn (go (on-dec (corner d (after d k)) (corner d k) (corner d i)));
+    on = on-turn (go (decided (on-tells (corner d (after d k)) (corner d k) (corner d i))));
   }
     where
       Between : Type 0
@@ -128,10 +122,8 @@ module _ (d : List ℤ) (simple : Simple d) (i k : ℕ) (hi : i < corners d) (hk
       go : Between ⊎ (¬ Between) → Between
       go (inl o) = o
       go (inr x) =
-          let h = away (corner d k) (corner d i) (corner d (after d k)) (λ z. i≠k (sym z)) (simple .two-ends k hk) x
-          (foreign d simple i k hi hk (a .1)) in
-          absurd (n (dot-on (corner d k) (corner d i) (corner d (after d k)) i≠m
-          (ring1 ρ (TurnE C B A) O (neg I) (TurnE A B C) O (a .0) refl)
+          let h = away (corner d k) (corner d i) (corner d (after d k)) x (off-side d simple i k hi hk (a .1)) in
+          absurd (n (dot-on (ring1 ρ (TurnE C B A) O (neg I) (TurnE A B C) O (a .0) refl)
           (h (ring1 ρ (TurnE A C B) O (neg I) (TurnE A B C) O (a .0) refl))))
         where
           ρ : List ℤ

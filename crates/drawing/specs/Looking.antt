@@ -18,8 +18,8 @@ use Rattle.outline.specs.Round.{prev-next}
 use Rattle.outline.specs.Seeing.{begins-at-i, ends-at-i, begins-at-j, ends-at-j, ends-at-neither}
 use Rattle.outline.specs.Seeing.{Passes, OnlyCorner, sees-of, beside-or}
 use Rattle.outline.specs.Against.{aside, aside-right, angle-ends}
-use Rattle.outline.specs.CentreMirror.{dot-on}
-use Rattle.outline.specs.OneLook.{foreign}
+use Rattle.outline.specs.Placed.{dot-on}
+use Rattle.outline.specs.Barred.{off-side}
 use Rattle.drawing.specs.Known.{SideTurn, Left, Right, Open, Hides}
 
 module _ (d : List ℤ) where
@@ -60,14 +60,14 @@ module _ (d : List ℤ) where
 -- ---- a side that is not open and ends at neither corner shares nothing with ij
 module _ (d : List ℤ) (simple : Simple d) where
   -- a corner on the line of a side that does not end there is off the side
-  off-side : (i k : ℕ) → i < corners d → k < corners d → ¬ EndsAt d k i → SideTurn d i k ≡ pos 0 →
+  off-line : (i k : ℕ) → i < corners d → k < corners d → ¬ EndsAt d k i → SideTurn d i k ≡ pos 0 →
       Positive (Dot (corner d i) (corner d k) (corner d (after d k)))
-  off-side i k hi hk n e = go (≤ℤ-total (Dot (corner d i) (corner d k) (corner d (after d k))) (pos 0))
+  off-line i k hi hk n e = go (≤ℤ-total (Dot (corner d i) (corner d k) (corner d (after d k))) (pos 0))
     where
       go : (Dot (corner d i) (corner d k) (corner d (after d k)) ≤ℤ pos 0) ⊎
           Positive (Dot (corner d i) (corner d k) (corner d (after d k))) →
           Positive (Dot (corner d i) (corner d k) (corner d (after d k)))
-      go (inl h) = absurd (foreign d simple i k hi hk n (dot-on _ _ _ (simple .two-ends k hk) e h))
+      go (inl h) = absurd (off-side d simple i k hi hk n (dot-on e h))
       go (inr h) = h
 
   closed : (i j k : ℕ) → i < corners d → j < corners d → k < corners d → ¬ EndsAt d k i → ¬ EndsAt d k j →
@@ -76,13 +76,13 @@ module _ (d : List ℤ) (simple : Simple d) where
     where
       go : Sign (SideTurn d i k) → Sign (SideTurn d j k) → ⊥
       go (plus x) (plus y) = one-side (inl (x, y)) (exchanged s)
-      go (plus x) (nought y) = aside x y (off-side j k hj hk ej y) s
+      go (plus x) (nought y) = aside x y (off-line j k hj hk ej y) s
       go (plus x) (minus y) = n (inl (inl (x, below y)))
-      go (nought x) (plus y) = aside y x (off-side i k hi hk ei x) (turned-first s)
+      go (nought x) (plus y) = aside y x (off-line i k hi hk ei x) (turned-first s)
       go (nought x) (nought y) = n (inr ((x, ei), (y, ej)))
-      go (nought x) (minus y) = aside-right (below y) x (off-side i k hi hk ei x) (turned-first s)
+      go (nought x) (minus y) = aside-right (below y) x (off-line i k hi hk ei x) (turned-first s)
       go (minus x) (plus y) = n (inl (inr (below x, y)))
-      go (minus x) (nought y) = aside-right (below x) y (off-side j k hj hk ej y) s
+      go (minus x) (nought y) = aside-right (below x) y (off-line j k hj hk ej y) s
       go (minus x) (minus y) = one-side (inr (below x, below y)) (exchanged s)
 
   -- ---- the sides at i and j pass because of the angles, those that are not open by the law above, the others by the

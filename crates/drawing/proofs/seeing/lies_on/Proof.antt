@@ -6,7 +6,7 @@ use mir.Val.{ofZ}
 use borrow.Author.Needs.{needs}
 use Rattle.outline.specs.Drawing.{corner, Turn}
 use Rattle.outline.specs.Tells.{never}
-use Rattle.outline.specs.CentreMirror.{dot-on, on-dot}
+use Rattle.outline.specs.Placed.{dot-on, on-dot}
 use Rattle.drawing.proofs.Machine.{by-le, held, same-bits, dot-same, turn-same}
 use Rattle.drawing.proofs.seeing.lies_on.Statement.{statement}
 use Rattle.drawing.proofs.seeing.lies_on.Tie as tie
@@ -43,7 +43,7 @@ returns c =
     let e = c .dot .ensures ∙
     dot-same (k .before .corner3 .ensures .is) (k .before .before .before .corner .ensures .is)
     (k .before .before .corner2 .ensures .is) in
-    by-le (held (c .dot .ok) e) refl (dot-on _ _ _ (s .pre .1) flat) (on-dot _ _ _)
+    by-le (held (c .dot .ok) e) refl (dot-on flat) on-dot
 
 returns-2 : tie.Need-returns-2
 returns-2 c = never (λ o. c .if1 .left (ap (ofZ w64) (line (c .before) ∙ o .line)))

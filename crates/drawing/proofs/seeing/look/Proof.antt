@@ -9,7 +9,7 @@ use Rattle.outline.specs.Drawing.{Sound, corners, Angle, Beside}
 use Rattle.outline.specs.InOrOn.{CentreSees}
 use Rattle.outline.specs.Tells.{if-yes, if-no}
 use Rattle.outline.specs.Seeing.{beside-or}
-use Rattle.outline.specs.Begins.{Begins, faces}
+use Rattle.outline.specs.Begins.{Begins, inside-or-along}
 use Rattle.drawing.specs.Table.{Early}
 use borrow.Author.Needs.{needs}
 use Rattle.drawing.proofs.seeing.look.Statement.{statement}
@@ -29,7 +29,7 @@ told-early d sound i j hi hj n s = go (beside-or d i j)
 
     go : Beside d i j ⊎ (¬ Beside d i j) → Early d i j
     go (inl b) = inl b
-    go (inr apart) = seen (faces d sound i j hi hj apart s)
+    go (inr apart) = seen (inside-or-along d sound i j hi hj apart s)
 
 returns : tie.Need-returns
 returns c =
