@@ -2,7 +2,7 @@
 //! between every two corners are found, whether a piece can use them or not; `telling` says what
 //! roads are.
 
-use crate::drawing::Sight;
+use crate::sight::Sight;
 use crate::telling::{self, cheapest, Cost, Costs, Piece, Seen, NONE};
 
 /// The first smallest valid cutting in telling order, if there is a valid one.

@@ -1,7 +1,8 @@
 //! The answer to a pair. 01, "What comes back".
 
 use crate::cutting;
-use crate::drawing::{self, Corner, Judged, Sight};
+use crate::drawing::{self, Corner, Judged};
+use crate::sight::{sight, Sight};
 use crate::telling::Piece;
 
 /// The result: the number, the count of pieces and the count of bytes used.
@@ -24,9 +25,7 @@ pub fn answer(first: &[i32], second: &[i32], room: &mut [u8]) -> Outcome {
 pub fn answer_by(search: Search, first: &[i32], second: &[i32], room: &mut [u8]) -> Outcome {
     match accept(first, second, room.len()) {
         Err(number) => refused(number),
-        Ok((first, second)) => {
-            cut_by(search, &drawing::sight(&first), &drawing::sight(&second), room)
-        }
+        Ok((first, second)) => cut_by(search, &sight(&first), &sight(&second), room),
     }
 }
 

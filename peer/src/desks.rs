@@ -2,12 +2,14 @@
 
 use crate::cutting;
 use crate::desk::{self, needed_room, refused, Outcome};
-use crate::drawing::{self, Judged, Sight, FEWEST_CORNERS, MOST_CORNERS};
+use crate::drawing::{self, Judged, FEWEST_CORNERS, MOST_CORNERS};
 use crate::marks::{self, Flat, Mark};
 use crate::pairs::calls::{self, Call};
 use crate::pairs::dice::Dice;
+use crate::sight::{self, Sight};
 
-/// Cells stand in rows of 64, whatever the number of corners: cell i*64+j tells whether i sees j.
+/// Cells stand in rows of 64, whatever the number of corners: cell i*64+j tells how i sees j, 1 for
+/// the strict sight plus 2 for a centre's.
 pub const ROW: usize = MOST_CORNERS;
 pub const CELLS: usize = ROW * ROW;
 
@@ -19,12 +21,13 @@ pub trait Desk {
     /// The number that a first drawing gets by itself: 0, 1, 3, 4 or 5.
     fn judge(&self, list: &[i32]) -> u8;
 
-    /// Puts 1 or 0 into the cells of two corners. False where the list is no drawing within 01's
-    /// limits or the cells are fewer than `CELLS`: then nothing is written.
+    /// Puts 0 to 3 into the cells of two corners. False where the list is no sound drawing or the
+    /// cells are fewer than `CELLS`: then nothing is written.
     fn sight(&self, list: &[i32], cells: &mut [u8]) -> bool;
 
-    /// Number 0 or 9 from the sight of two drawings, where a cell that is not 0 says that i sees
-    /// j; or 1, where n, the cells or the room are not served.
+    /// Number 0 or 9 from the sight of two drawings, where an odd cell tells the strict kind and an
+    /// odd half of a cell, rounded down, the centre's, whatever the cell is besides; or 1, where n
+    /// or the cells are not served, or 2, where the room is too small.
     fn cut(&self, n: usize, first: &[u8], second: &[u8], room: &mut [u8]) -> Outcome;
 
     /// 02, K1: where a mark lands.
@@ -51,14 +54,13 @@ impl Desk for Peer {
     }
 
     fn sight(&self, list: &[i32], cells: &mut [u8]) -> bool {
-        let corners = drawing::corners(list);
-        if cells.len() < CELLS || !shaped(list) || !corners.iter().all(drawing::in_range) {
+        if cells.len() < CELLS || self.judge(list) != 0 {
             return false;
         }
-        let sight = drawing::sight(&corners);
-        for i in 0..corners.len() {
-            for j in 0..corners.len() {
-                cells[i * ROW + j] = u8::from(sight.sees(i, j));
+        let sight = sight::sight(&drawing::corners(list));
+        for i in 0..sight.corners() {
+            for j in 0..sight.corners() {
+                cells[i * ROW + j] = sight.cell(i, j);
             }
         }
         true
@@ -74,7 +76,7 @@ impl Desk for Peer {
             return refused(2);
         }
         let [first, second] =
-            [first, second].map(|cells| Sight::from_cells(n, |i, j| cells[i * ROW + j] != 0));
+            [first, second].map(|cells| Sight::from_cells(n, |i, j| cells[i * ROW + j]));
         desk::cut_by(cutting::first_smallest, &first, &second, room)
     }
 

@@ -1,5 +1,5 @@
-//! A drawing: the judgement whether it is sound, and which corners see each other.
-//! 01, "A sound drawing" and "Sight".
+//! A drawing: the judgement whether it is sound, and which corners see each other by the strict
+//! rule. 01, "A sound drawing" and "Sight".
 
 /// 01, "A sound drawing": n is 3 to 64, a coordinate -1,000,000 to 1,000,000.
 pub const FEWEST_CORNERS: usize = 3;
@@ -52,7 +52,7 @@ pub fn in_range(corner: &Corner) -> bool {
 }
 
 /// The number of the corner after i, round the drawing.
-fn after(n: usize, i: usize) -> usize {
+pub fn after(n: usize, i: usize) -> usize {
     if i + 1 == n {
         0
     } else {
@@ -118,7 +118,8 @@ fn straddles(a: Corner, b: Corner, c: Corner, d: Corner) -> bool {
     turn(a, b, c).signum() * turn(a, b, d).signum() <= 0
 }
 
-fn extents_meet(a: Corner, b: Corner, c: Corner, d: Corner) -> bool {
+/// Whether the upright rectangles about two segments share a point.
+pub fn extents_meet(a: Corner, b: Corner, c: Corner, d: Corner) -> bool {
     a.x.min(b.x) <= c.x.max(d.x)
         && c.x.min(d.x) <= a.x.max(b.x)
         && a.y.min(b.y) <= c.y.max(d.y)
@@ -132,47 +133,8 @@ pub fn share_only(common: Corner, a: Corner, b: Corner) -> bool {
     turn(common, a, b) != 0 || along <= 0
 }
 
-/// Who sees whom in one drawing: all that the cutting rules learn of it.
-#[derive(Clone, Debug, PartialEq, Eq)]
-pub struct Sight {
-    n: usize,
-    cells: Vec<bool>,
-}
-
-impl Sight {
-    /// The sight in which i sees j when the rule says so: any table, whether a drawing has it or not.
-    pub fn from_cells(n: usize, rule: impl Fn(usize, usize) -> bool) -> Sight {
-        Sight { n, cells: (0..n * n).map(|at| rule(at / n, at % n)).collect() }
-    }
-
-    /// The sight in which i sees j when the rule says so of i <= j; sight goes both ways.
-    pub fn from_rule(n: usize, mut rule: impl FnMut(usize, usize) -> bool) -> Sight {
-        let mut cells = vec![false; n * n];
-        for i in 0..n {
-            for j in i..n {
-                let seen = rule(i, j);
-                cells[i * n + j] = seen;
-                cells[j * n + i] = seen;
-            }
-        }
-        Sight { n, cells }
-    }
-
-    pub fn corners(&self) -> usize {
-        self.n
-    }
-
-    pub fn sees(&self, i: usize, j: usize) -> bool {
-        self.cells[i * self.n + j]
-    }
-}
-
-/// The sight of all pairs of a drawing in range.
-pub fn sight(drawing: &[Corner]) -> Sight {
-    Sight::from_rule(drawing.len(), |i, j| sees(drawing, i, j))
-}
-
-/// 01, "Sight". The angles need fewer products than the sides and are asked first.
+/// 01, "Sight", of a drawing in range. The angles need fewer products than the sides and are asked
+/// first.
 pub fn sees(drawing: &[Corner], i: usize, j: usize) -> bool {
     let n = drawing.len();
     if i == j || after(n, i) == j || after(n, j) == i {

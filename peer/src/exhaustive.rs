@@ -1,7 +1,8 @@
 //! The same answer as `cutting` for few corners, directly from the definitions: every set of
-//! uncrossed cuts, its regions, their centres, its told run. 01, "Cuttings".
+//! uncrossed cuts, its regions, their centres, its told run. 01, "Cuttings"; cuts and centres each by
+//! their own sight, 02, K3.
 
-use crate::drawing::Sight;
+use crate::sight::Sight;
 use crate::telling::{lowest_centre, Piece};
 
 /// Beyond this many corners there are too many cuttings to try.
@@ -13,9 +14,10 @@ pub type Cut = (usize, usize);
 /// The first smallest valid cutting in telling order, if there is a valid one.
 pub fn first_smallest(first: &Sight, second: &Sight) -> Option<Vec<Piece>> {
     let n = first.corners();
-    let sees = |i: usize, j: usize| first.sees(i, j) && second.sees(i, j);
+    let may_cut = |i: usize, j: usize| first.sees(i, j) && second.sees(i, j);
+    let sees = |x: usize, y: usize| first.centre_sees(x, y) && second.centre_sees(x, y);
     let mut best: Option<(usize, Vec<usize>, Vec<Piece>)> = None;
-    for cutting in cuttings(n, &sees) {
+    for cutting in cuttings(n, &may_cut) {
         if let Some(pieces) = valid_pieces(n, &cutting, &sees) {
             let run = pieces.iter().flat_map(|p| p.corners.clone()).collect();
             let found = (pieces.len(), run, pieces);
@@ -28,9 +30,9 @@ pub fn first_smallest(first: &Sight, second: &Sight) -> Option<Vec<Piece>> {
 }
 
 /// All sets of cuts no two of which cross.
-pub fn cuttings(n: usize, sees: &dyn Fn(usize, usize) -> bool) -> Vec<Vec<Cut>> {
+pub fn cuttings(n: usize, may_cut: &dyn Fn(usize, usize) -> bool) -> Vec<Vec<Cut>> {
     let mut sets = vec![Vec::new()];
-    for cut in cuts(n, sees) {
+    for cut in cuts(n, may_cut) {
         let with_cut = |set: &Vec<Cut>| {
             let free = set.iter().all(|&other| !cross(other, cut));
             free.then(|| set.iter().copied().chain([cut]).collect())
@@ -41,11 +43,12 @@ pub fn cuttings(n: usize, sees: &dyn Fn(usize, usize) -> bool) -> Vec<Vec<Cut>> 
     sets
 }
 
-/// A cut is a pair that is no side and whose corners see each other in both drawings.
-fn cuts(n: usize, sees: &dyn Fn(usize, usize) -> bool) -> Vec<Cut> {
+/// A cut is a pair that is no side and whose corners see each other in both drawings, by the strict
+/// rule.
+fn cuts(n: usize, may_cut: &dyn Fn(usize, usize) -> bool) -> Vec<Cut> {
     let pairs = (0..n).flat_map(|a| (a + 1..n).map(move |b| (a, b)));
     let no_side = |&(a, b): &Cut| b - a != 1 && b - a != n - 1;
-    pairs.filter(no_side).filter(|&(a, b)| sees(a, b)).collect()
+    pairs.filter(no_side).filter(|&(a, b)| may_cut(a, b)).collect()
 }
 
 fn cross((a, b): Cut, (c, d): Cut) -> bool {

@@ -2,7 +2,8 @@
 //! the requests of document 02 that have landed, to run the product against: written from the
 //! documents, with exact whole numbers, and sharing no code with it.
 //!
-//! `drawing` judges drawings and finds sight; `cutting` searches from sight alone, `telling` tells
+//! `drawing` judges drawings and knows the strict sight, `centre_sight` a centre's, by what is
+//! `inside`, and `sight` is a table of both; `cutting` searches from sight alone, `telling` tells
 //! what it has found, and `exhaustive` does the same for few corners by trying every cutting;
 //! `desk` answers a pair, `frames` a whole input; `marks` carries a mark across, by exact fractions
 //! (`fraction`). `pairs` makes drawings, pairs, marks, calls and inputs to try; `program` runs another
@@ -13,6 +14,7 @@
 
 pub mod ask;
 pub mod bench;
+pub mod centre_sight;
 pub mod cutting;
 pub mod desk;
 pub mod desks;
@@ -21,11 +23,13 @@ pub mod entry;
 pub mod exhaustive;
 pub mod fraction;
 pub mod frames;
+pub mod inside;
 pub mod library;
 pub mod marks;
 pub mod pairs;
 pub mod program;
 pub mod rival;
 pub mod show;
+pub mod sight;
 pub mod tell;
 pub mod telling;

@@ -3,7 +3,7 @@
 //! beside each other in one program. Lists, cells and rooms go as pointer and length.
 
 use crate::desk::Outcome;
-use crate::desks::Desk;
+use crate::desks::{Desk, CELLS};
 use crate::marks::{Axis, Flat, Mark};
 use std::ffi::{c_char, c_int, c_void, CStr, CString};
 use std::path::Path;
@@ -110,6 +110,13 @@ impl Library {
 
     pub fn carries(&self) -> bool {
         self.carry.is_some()
+    }
+
+    /// Whether its sight judges: it refuses this drawing, which crosses itself. That of earlier
+    /// checkouts served any drawing within the limits.
+    pub fn sight_judges(&self) -> bool {
+        let crossed = [0, 0, 4, 4, 4, 0, 0, 4];
+        !self.sight(&crossed, &mut [0; CELLS])
     }
 }
 

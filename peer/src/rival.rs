@@ -9,7 +9,7 @@
 //!     x <= i < b < j      a road from i to j for x: the line i-b, then the road from b to j
 //! ```
 
-use crate::drawing::Sight;
+use crate::sight::Sight;
 use crate::telling::{self, cheapest, Cost, Costs, Piece, Seen, NONE};
 
 /// The first smallest valid cutting in telling order, if there is a valid one.

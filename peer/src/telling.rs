@@ -1,12 +1,14 @@
 //! From the costs that a search has found to the first smallest cutting, told. 01, "Cuttings".
 //!
+//! A cut is seen in both drawings by the strict rule, and a centre sees in both by its own (02, K3).
 //! The cost of a line i-j is the fewest pieces that the range i..j under it takes (none for a
 //! side). A road for a centre x is a rising chain of corners that x sees, each joined to the next
 //! by a side or a cut; its cost is that of its lines. A piece with centre x on the closing line
 //! i-j is a road from i to j that goes through x. A road is followed by its first step: of equally
 //! cheap ones the one with the smallest next corner is told first.
 
-use crate::drawing::{Sight, MOST_CORNERS};
+use crate::drawing::MOST_CORNERS;
+use crate::sight::Sight;
 
 /// A piece: its corners in rising order and its centre, the lowest-numbered one.
 #[derive(Clone, Debug, PartialEq, Eq)]
@@ -35,41 +37,46 @@ pub trait Costs {
     fn road(&self, x: usize, i: usize, j: usize) -> Cost;
 }
 
-/// Who sees whom in both drawings, in rows for both ways of asking.
+/// Who sees whom in both drawings: along what may be cut, and what centres see, in rows for both
+/// ways of asking.
 pub struct Seen {
     n: usize,
-    /// Whether x sees y, at x*n + y.
+    /// Whether the line i-j may be cut along, at i*n + j.
+    cuts: Vec<bool>,
+    /// Whether x, as a centre, sees y, at x*n + y.
     from: Vec<bool>,
-    /// Whether x sees y, at y*n + x.
+    /// Whether x, as a centre, sees y, at y*n + x.
     to: Vec<bool>,
 }
 
 impl Seen {
     pub fn in_both(first: &Sight, second: &Sight) -> Seen {
         let n = first.corners();
-        let both = |x: usize, y: usize| first.sees(x, y) && second.sees(x, y);
+        let cut = |i: usize, j: usize| first.sees(i, j) && second.sees(i, j);
+        let both = |x: usize, y: usize| first.centre_sees(x, y) && second.centre_sees(x, y);
+        let cuts = (0..n * n).map(|at| cut(at / n, at % n)).collect();
         let from = (0..n * n).map(|at| both(at / n, at % n)).collect();
         let to = (0..n * n).map(|at| both(at % n, at / n)).collect();
-        Seen { n, from, to }
+        Seen { n, cuts, from, to }
     }
 
     pub fn corners(&self) -> usize {
         self.n
     }
 
-    /// Whether x sees y.
+    /// Whether x, as a centre, sees y.
     pub fn sees(&self, x: usize, y: usize) -> bool {
         self.from[x * self.n + y]
     }
 
-    /// For each x whether it sees y.
+    /// For each x whether it, as a centre, sees y.
     pub fn viewers(&self, y: usize) -> &[bool] {
         &self.to[y * self.n..][..self.n]
     }
 
     /// Whether i < j are the ends of a range: joined by a cut, or the first corner and the last.
     pub fn closes(&self, i: usize, j: usize) -> bool {
-        self.sees(i, j) || i == 0 && j + 1 == self.n
+        self.cuts[i * self.n + j] || i == 0 && j + 1 == self.n
     }
 }
 

@@ -2,13 +2,16 @@
 
 use peer::bench::carrying;
 use peer::bench::contestants::{Work, Works, ROOM};
+use peer::bench::measure::before_agrees;
 use peer::bench::race::{race, Turns};
 use peer::bench::rates::{rates, Run};
 use peer::bench::rows::{sizes, KINDS};
-use peer::bench::table::{table, Row};
-use peer::desks::{Desk, Peer};
+use peer::bench::table::{sight_table, table, Row};
+use peer::desk::Outcome;
+use peer::desks::{Desk, Peer, ROW};
 use peer::drawing::{corners, share_a_point};
 use peer::frames;
+use peer::marks::{Flat, Mark};
 use peer::pairs::Pair;
 use std::cell::RefCell;
 use std::time::Duration;
@@ -94,6 +97,77 @@ fn a_table_has_the_stages_of_its_first_contestant() {
 | convex | 16 | 1/1 | 1.50 | 3.00 | 0.50 | 4.0x |
 ";
     assert_eq!(table(["rival", "product"], &[row(8, 6.0, 10.0), row(16, 1.5, 40.0)]), expected);
+}
+
+/// Beside a call of sight that judges stands one that does not, with its judging.
+#[test]
+fn a_table_of_sight_adds_the_judging_that_a_call_leaves_out() {
+    let row = |n, before, after| Row {
+        kind: "convex",
+        n,
+        cut: "1/1".into(),
+        times: [[before, Some(6.0), None, None], [Some(9.0), Some(4.0), None, None]].map(|t| {
+            let after: Option<f64> = after;
+            [t[0], t[1].filter(|_| after.is_some()), t[2], t[3]]
+        }),
+    };
+    let rows = [row(8, Some(2.0), Some(0.0)), row(16, None, Some(0.0)), row(32, Some(2.0), None)];
+    let expected = "\
+| pairs | n | before: judging + sight | after: sight | ratio |
+| --- | --- | --- | --- | --- |
+| convex | 8 | 8.00 | 4.00 | 2.00 |
+| convex | 16 | - | 4.00 | - |
+| convex | 32 | - | - | - |
+";
+    assert_eq!(sight_table(["before", "after"], [false, true], &rows), expected);
+    let both = sight_table(["before", "after"], [true, true], &rows);
+    assert!(
+        both.contains("| before: sight | after: sight |")
+            && both.contains("| 6.00 | 4.00 | 1.50 |")
+    );
+}
+
+/// The library of an earlier checkout: its cells tell the strict kind alone, and its answers are
+/// others. Perhaps a number or a cell is wrong.
+struct Earlier {
+    wrong_number: bool,
+    wrong_cell: bool,
+}
+
+impl Desk for Earlier {
+    fn answer(&self, _: &[i32], _: &[i32], _: &mut [u8]) -> Outcome {
+        Outcome { number: 9, pieces: 0, bytes: 0 }
+    }
+
+    fn judge(&self, list: &[i32]) -> u8 {
+        Peer.judge(list) + u8::from(self.wrong_number)
+    }
+
+    fn sight(&self, list: &[i32], cells: &mut [u8]) -> bool {
+        Peer.sight(list, cells);
+        cells.iter_mut().for_each(|cell| *cell %= 2);
+        cells[ROW + 2] ^= u8::from(self.wrong_cell);
+        true
+    }
+
+    fn cut(&self, _: usize, _: &[u8], _: &[u8], _: &mut [u8]) -> Outcome {
+        Outcome { number: 9, pieces: 0, bytes: 0 }
+    }
+
+    fn carry(&self, _: &[i32], _: &[i32], _: Mark, _: &mut [u8]) -> Flat {
+        panic!("no mark is asked for")
+    }
+}
+
+#[test]
+fn of_an_earlier_library_only_judging_and_strict_sight_are_compared() {
+    let (_, rectangle) = KINDS.into_iter().find(|(kind, _)| kind.starts_with("rectangle")).unwrap();
+    let pair = &rectangle(16)[0];
+    let agrees = |wrong_number, wrong_cell, judges| {
+        before_agrees(&Earlier { wrong_number, wrong_cell }, judges, pair).is_ok()
+    };
+    assert!(agrees(false, false, true) && agrees(true, false, false));
+    assert!(!agrees(true, false, true) && !agrees(false, true, true));
 }
 
 /// The mark that is measured is in the last wedge of the answer: a convex drawing has its last

@@ -1,12 +1,11 @@
-//! The quick tests of `drawing` and `marks` against 01's own definitions.
+//! The quick tests of `drawing`, `centre_sight` and `marks` against the documents' own definitions.
 
-mod inside;
-
-use inside::{in_or_on, Point};
+use peer::centre_sight::centre_sees;
 use peer::drawing::{judge, sees, share_a_point, share_only, turn, Corner, Judged};
+use peer::inside::{in_or_on, Point};
 use peer::marks::holds;
 use peer::pairs::dice::Dice;
-use peer::pairs::shapes::{self, SHAPES};
+use peer::pairs::shapes::{self, Shape, SHAPES};
 
 fn small_corners() -> Vec<Corner> {
     let corner = |k: i64| Corner::at(k / 3, k % 3);
@@ -74,6 +73,99 @@ fn sight_is_a_clear_line_inside() {
         }
     }
     assert!(seen[0] > 10_000 && seen[1] > 10_000);
+}
+
+/// Points of the plane on a grid of halves, by 01's sentence written out: on a side, or a side passes
+/// at the height, which is solved for.
+#[test]
+fn in_or_on_is_as_defined() {
+    let mut dice = Dice::new(17);
+    let mut held = [0, 0];
+    for _ in 0..300 {
+        let (shape, n) = (dice.pick(&[Shape::Grid, Shape::Rectilinear, Shape::Stairs]), 8);
+        let drawing = shapes::drawing(&mut dice, shape, n);
+        for (x, y) in (-12..=12).flat_map(|x| (-12..=12).map(move |y| (x, y))) {
+            let side = |k: usize| (drawing[k], drawing[(k + 1) % n]);
+            let on = |k: &usize| {
+                let (a, b) = side(*k);
+                let [a, b] = [a, b].map(|c| Corner::at(2 * c.x, 2 * c.y));
+                share_a_point(a, b, Corner::at(x, y), Corner::at(x, y))
+            };
+            let passes = |k: &usize| {
+                let (a, b) = side(*k);
+                let (low, high) = if a.y < b.y { (a, b) } else { (b, a) };
+                // At height y/2 the side has this x, over twice its rise.
+                let rise = high.y - low.y;
+                let at = 2 * low.x * rise + (y - 2 * low.y) * (high.x - low.x);
+                2 * high.y > y && 2 * low.y <= y && at > x * rise
+            };
+            let odd = (0..n).filter(passes).count() % 2 == 1;
+            let defined = (0..n).any(|k| on(&k)) || odd;
+            let point = Point { x: x.into(), y: y.into(), r: 2 };
+            assert_eq!(in_or_on(&drawing, &point), defined, "({x}, {y}) / 2 of {drawing:?}");
+            held[usize::from(defined)] += 1;
+        }
+    }
+    assert!(held[0] > 10_000 && held[1] > 10_000, "{held:?}");
+}
+
+/// 02, K3: "every point of the segment lies in or on the outline". On a grid of four by four what a
+/// segment shares with a side is over 18 at most, and between two such points there is one over 36
+/// at most: so these are all points that count.
+#[test]
+fn a_centre_sees_along_what_is_in_or_on_the_drawing() {
+    let mut dice = Dice::new(18);
+    let mut kinds = [0; 4];
+    for _ in 0..400 {
+        let n = 4 + dice.below(6);
+        let mut corner = || Corner::at(dice.between(0, 3), dice.between(0, 3));
+        let drawing: Vec<Corner> = (0..n).map(|_| corner()).collect();
+        let drawing = if judge(&drawing) == Judged::Sound {
+            drawing
+        } else {
+            let Some(drawing) = on_small_grid(&mut dice, n) else { continue };
+            drawing
+        };
+        for (i, j) in (0..n).flat_map(|i| (0..n).map(move |j| (i, j))) {
+            let (a, b) = (drawing[i], drawing[j]);
+            let at = |a: i64, b: i64, p: i64, r: i64| i128::from(r * a + p * (b - a));
+            let point = |p, r| Point { x: at(a.x, b.x, p, r), y: at(a.y, b.y, p, r), r };
+            let over = |r: i64| (0..=r).all(|p| in_or_on(&drawing, &point(p, r)));
+            let defined = (1..=36).all(over);
+            assert_eq!(centre_sees(&drawing, i, j), defined, "{i} {j} of {drawing:?}");
+            kinds[usize::from(sees(&drawing, i, j)) + 2 * usize::from(defined)] += 1;
+        }
+    }
+    // What is seen strictly is seen by a centre too.
+    assert!(kinds[1] == 0 && [0, 2, 3].iter().all(|&k| kinds[k] > 500), "{kinds:?}");
+}
+
+/// A sound drawing with coordinates from 0 to 3, if one is found.
+fn on_small_grid(dice: &mut Dice, n: usize) -> Option<Vec<Corner>> {
+    let drawing = (0..200).find_map(|_| {
+        let drawing = shapes::drawing(dice, Shape::Grid, n);
+        let low = drawing.iter().fold((i64::MAX, i64::MAX), |l, c| (l.0.min(c.x), l.1.min(c.y)));
+        let moved: Vec<Corner> =
+            drawing.iter().map(|c| Corner::at(c.x - low.0, c.y - low.1)).collect();
+        moved.iter().all(|c| c.x <= 3 && c.y <= 3).then_some(moved)
+    });
+    drawing
+}
+
+/// The corners of the whole range: the longest segments, and stretches between points that hardly
+/// differ.
+#[test]
+fn a_centre_sees_across_the_whole_range() {
+    let far = 1_000_000;
+    let list = [(-far, -far), (far, 1 - far), (far, far), (far - 1, far - 1), (1 - far, far - 2)];
+    let drawing: Vec<Corner> = list.iter().map(|&(x, y)| Corner::at(x, y)).collect();
+    assert_eq!(judge(&drawing), Judged::Sound);
+    let seen = |i: usize| -> Vec<bool> { (0..5).map(|j| centre_sees(&drawing, i, j)).collect() };
+    // 0, 3 and 2 are on one line, and 3 is between them.
+    assert_eq!(seen(0), [true; 5]);
+    assert!(!sees(&drawing, 0, 2) && sees(&drawing, 0, 3));
+    // Beyond 3 the line from 4 leaves the drawing, by less than one step.
+    assert_eq!(seen(4), [true, true, false, true, true]);
 }
 
 /// A wedge with area holds what 01 has in or on it as a drawing of three corners, whichever way

@@ -2,11 +2,11 @@
 
 use peer::cutting;
 use peer::desk;
-use peer::drawing::Sight;
 use peer::exhaustive;
 use peer::pairs::dice::Dice;
 use peer::pairs::{pair_up_to, Kind};
 use peer::rival;
+use peer::sight::{cell, Sight};
 
 /// The sets of uncrossed diagonals of a convex polygon are counted by Schröder's numbers.
 #[test]
@@ -57,11 +57,13 @@ fn triangles(dice: &mut Dice, i: usize, j: usize, lines: &mut Vec<(usize, usize)
 }
 
 /// A table of sight that need not come from any drawing: neighbours see each other, and other
-/// pairs do that are among the lines, or so many times in ten.
+/// pairs do that are among the lines, or so many times in ten. Some are seen by a centre only, and
+/// some may only be cut along.
 fn some_sight(dice: &mut Dice, n: usize, lines: &[(usize, usize)], of_ten: usize) -> Sight {
     Sight::from_rule(n, |i, j| {
-        let near = j - i <= 1 || j - i == n - 1;
-        dice.below(10) < of_ten || near || lines.contains(&(i, j))
+        let near = j - i <= 1 || j - i == n - 1 || lines.contains(&(i, j));
+        let seen = dice.below(10) < of_ten;
+        cell(near || seen && !dice.once_in(4), near || seen && !dice.once_in(8))
     })
 }
 
@@ -89,12 +91,41 @@ fn the_searches_agree_on_any_cells() {
     let mut pieces = [0; 10];
     for _ in 0..6000 {
         let (n, of_ten) = (3 + dice.below(7), dice.pick(&[5, 8, 9]));
-        let mut cells = || -> Vec<bool> { (0..n * n).map(|_| dice.below(10) < of_ten).collect() };
-        let [first, second] = [cells(), cells()];
-        let sight = |cells: Vec<bool>| Sight::from_cells(n, |i, j| cells[i * n + j]);
-        pieces[agreed(&sight(first), &sight(second))] += 1;
+        let mut sight = || {
+            let mut seen = || (dice.below(10) < of_ten, dice.below(10) < of_ten);
+            let cells: Vec<(bool, bool)> = (0..n * n).map(|_| seen()).collect();
+            Sight::from_cells(n, |i, j| cell(cells[i * n + j].0, cells[i * n + j].1))
+        };
+        pieces[agreed(&sight(), &sight())] += 1;
     }
     assert!(pieces[..4].iter().all(|&count| count > 50), "{pieces:?}");
+}
+
+/// A cut needs the strict kind and a centre its own, in both drawings: a square of which one pair of
+/// opposite corners is told in all four ways.
+#[test]
+fn each_kind_of_sight_for_its_own() {
+    let square = |told: u8| {
+        Sight::from_rule(4, |i, j| match (i, j) {
+            (0, 2) => told,
+            (1, 3) => 0,
+            _ => 3,
+        })
+    };
+    let pieces = |first: u8, second: u8| agreed(&square(first), &square(second));
+    for first in 0..4 {
+        for second in 0..4 {
+            // With the centre's kind 0 is a centre; with the other alone two triangles are left.
+            let expected = match first & second {
+                0 => 0,
+                1 => 2,
+                _ => 1,
+            };
+            assert_eq!(pieces(first, second), expected, "{first} {second}");
+        }
+    }
+    assert_eq!(pieces(4, 255), 0);
+    assert_eq!(pieces(254, 255), 1);
 }
 
 /// The count of pieces that all searches find, with the same cutting; 0 for none.

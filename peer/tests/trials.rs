@@ -1,14 +1,16 @@
 //! The trials themselves: what they try is what it should be, they pass the peer, and they find
 //! faults put into it.
 
+use peer::centre_sight::centre_sees;
 use peer::desk::{self, Outcome};
-use peer::desks::{compare_calls, Desk, Peer, ROW};
-use peer::drawing::{judge, Judged, Sight};
+use peer::desks::{compare_calls, Desk, Peer, CELLS, ROW};
+use peer::drawing::{judge, sees, share_a_point, turn, Corner, Judged};
 use peer::exhaustive;
 use peer::marks::{self, Flat, Mark};
 use peer::pairs::calls::{self, Call};
 use peer::pairs::dice::Dice;
-use peer::pairs::shapes::{self, SHAPES};
+use peer::pairs::shapes::{self, Shape, SHAPES};
+use peer::sight::Sight;
 use std::process::{Command, Output};
 
 const PEER: &str = env!("CARGO_BIN_EXE_peer");
@@ -76,14 +78,22 @@ enum Fault {
     AnswerRefused,
     /// The number of a drawing.
     Judged,
-    /// A cell of two corners, one of no corners, one where nothing is served, and the result.
+    /// A cell of two corners in either kind, one of no corners, one where nothing is served, and the
+    /// result.
     Seen,
+    SeenByCentre,
     KeptBeside,
     KeptRefused,
     Served,
+    /// A drawing is served that is not sound, and not written.
+    ServedUnsound,
     /// The same for a cutting as for an answer.
     CutGiven,
     CutRefused,
+    /// Cuts by a centre's sight, centres by the strict one, and a cell above 3 that says all.
+    CutsByCentre,
+    StrictCentres,
+    AllInHighCells,
     /// The same for a mark.
     CarryGiven,
     CarryRefused,
@@ -131,18 +141,32 @@ impl Desk for Other {
         if served {
             self.spoil(Fault::Seen, cells.get_mut(ROW + 2));
             self.spoil(Fault::KeptBeside, cells.last_mut());
+            if self.fault == Some(Fault::SeenByCentre) {
+                cells[ROW + 2] ^= 2;
+            }
         } else {
             self.spoil(Fault::KeptRefused, cells.first_mut());
         }
-        served != (self.fault == Some(Fault::Served))
+        let unsound = cells.len() >= CELLS && (3..=5).contains(&Peer.judge(list));
+        match self.fault {
+            Some(Fault::Served) => !served,
+            Some(Fault::ServedUnsound) => served || unsound,
+            _ => served,
+        }
     }
 
     fn cut(&self, n: usize, first: &[u8], second: &[u8], room: &mut [u8]) -> Outcome {
-        let mut outcome = Peer.cut(n, first, second, room);
-        if outcome.number == 0 {
-            let sights = [first, second].map(|c| Sight::from_cells(n, |i, j| c[i * ROW + j] != 0));
+        let mut outcome = Peer.cut(n, first, second, &mut room.to_vec());
+        if [0, 9].contains(&outcome.number) {
+            let read = |cell: u8| match self.fault {
+                Some(Fault::CutsByCentre) => cell / 2 % 2 * 3,
+                Some(Fault::StrictCentres) => cell % 2 * 3,
+                Some(Fault::AllInHighCells) if cell > 3 => 3,
+                _ => cell,
+            };
+            let sight = |c: &[u8]| Sight::from_cells(n, |i, j| read(c[i * ROW + j]));
             let search = exhaustive::first_smallest;
-            outcome = desk::cut_by(search, &sights[0], &sights[1], room);
+            outcome = desk::cut_by(search, &sight(first), &sight(second), room);
         }
         self.spoil_room([Fault::CutGiven, Fault::CutRefused], &outcome, room);
         outcome
@@ -174,11 +198,16 @@ fn calls_compare_every_byte_lent() {
         Fault::AnswerRefused,
         Fault::Judged,
         Fault::Seen,
+        Fault::SeenByCentre,
         Fault::KeptBeside,
         Fault::KeptRefused,
         Fault::Served,
+        Fault::ServedUnsound,
         Fault::CutGiven,
         Fault::CutRefused,
+        Fault::CutsByCentre,
+        Fault::StrictCentres,
+        Fault::AllInHighCells,
         Fault::CarryGiven,
         Fault::CarryRefused,
         Fault::Rest,
@@ -212,7 +241,7 @@ fn calls_carry_and_refuse() {
     let mut dice = Dice::new(7);
     let mut numbers = [0; 11];
     let (mut nowhere, mut whole, mut between) = (0, 0, 0);
-    for call in (0..600).flat_map(|_| calls::round(&mut dice, 24)) {
+    for call in (0..1200).flat_map(|_| calls::round(&mut dice, 16)) {
         if let Call::Carry { pair, mark, mut room } = call {
             let carried = marks::carry(&pair.first, &pair.second, mark, &mut room);
             numbers[usize::from(carried.outcome.number)] += 1;
@@ -236,4 +265,60 @@ fn every_shape_has_the_corners_asked_for() {
             assert_eq!((drawing.len(), judge(&drawing)), (n, Judged::Sound), "{shape:?}");
         }
     }
+}
+
+/// Whether a line touches a third corner, and no side crosses it between the side's ends.
+fn only_touches(drawing: &[Corner], i: usize, j: usize) -> bool {
+    let (a, b) = (drawing[i], drawing[j]);
+    let n = drawing.len();
+    let third = |k: usize| k != i && k != j && share_a_point(a, b, drawing[k], drawing[k]);
+    let crosses = |k: usize| {
+        let (c, d) = (drawing[k], drawing[(k + 1) % n]);
+        let across = turn(a, b, c).signum() * turn(a, b, d).signum() < 0;
+        across && share_a_point(a, b, c, d)
+    };
+    (0..n).any(third) && !(0..n).any(crosses)
+}
+
+/// Shapes on squared paper have lines that touch a corner from inside, which a centre sees along,
+/// and lines that do so from outside, which nobody sees along.
+#[test]
+fn lines_touch_corners_from_inside_and_from_outside() {
+    let mut dice = Dice::new(20);
+    let mut both = |shape: Shape| {
+        let mut touched = [0, 0];
+        for n in 8..24 {
+            let drawing = shapes::drawing(&mut dice, shape, n);
+            for (i, j) in (0..n).flat_map(|i| (i + 1..n).map(move |j| (i, j))) {
+                if only_touches(&drawing, i, j) {
+                    assert!(!sees(&drawing, i, j));
+                    touched[usize::from(centre_sees(&drawing, i, j))] += 1;
+                }
+            }
+        }
+        touched
+    };
+    for shape in [Shape::Grid, Shape::Comb, Shape::Rectilinear, Shape::Battlements, Shape::Stairs] {
+        let touched = both(shape);
+        assert!(touched[0] > 5 && touched[1] > 20, "{shape:?}: {touched:?}");
+    }
+    for shape in [Shape::Rectangle, Shape::Levels] {
+        let touched = both(shape);
+        assert!(touched[0] == 0 && touched[1] > 100, "{shape:?}: {touched:?}");
+    }
+}
+
+/// Sight is asked of drawings that are not sound, with room for the cells, and of sound ones.
+#[test]
+fn calls_ask_for_sight_of_every_judgement() {
+    let mut dice = Dice::new(21);
+    let mut numbers = [0; 6];
+    for call in (0..900).flat_map(|_| calls::round(&mut dice, 12)) {
+        if let Call::Sight { list, cells } = call {
+            if cells.len() >= CELLS {
+                numbers[usize::from(Peer.judge(&list))] += 1;
+            }
+        }
+    }
+    assert!([0, 1, 3, 4, 5].iter().all(|&k| numbers[k] > 5), "{numbers:?}");
 }

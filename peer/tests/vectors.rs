@@ -5,9 +5,10 @@
 mod recorded;
 
 use peer::desk::{self, Outcome};
-use peer::desks::{Desk, Peer};
-use peer::drawing::{corners, judge, sight, Judged};
+use peer::desks::{Desk, Peer, CELLS, ROW};
+use peer::drawing::{corners, judge, Judged};
 use peer::frames;
+use peer::sight::sight;
 use recorded::{Frames, BIG, EDGE, FIG8, MID, SMALL};
 
 fn same_output(recorded: &Frames) {
@@ -88,7 +89,7 @@ fn calls_with_any_lists_and_room() {
 #[test]
 fn cuttings_of_tables() {
     let cuttings = recorded::cuttings();
-    assert_eq!(cuttings.len(), 27);
+    assert!(cuttings.len() >= 27);
     for recorded in cuttings {
         let mut room = vec![250; recorded.room];
         let outcome = Peer.cut(recorded.corners, &recorded.first, &recorded.second, &mut room);
@@ -111,16 +112,16 @@ fn judgements_and_sight() {
             Judged::NotAnticlockwise => "not-anticlockwise",
         };
         assert_eq!(judged, recorded.judgement, "{:?}", recorded.drawing);
-        let n = if judged == "out-of-range" { 0 } else { drawing.len() };
+        let n = if judged == "sound" { drawing.len() } else { 0 };
         assert_eq!(recorded.rows.len(), n);
-        if n == 0 {
-            continue;
-        }
-        let seen = sight(&drawing);
+        let mut cells = vec![7; CELLS];
+        assert_eq!(Peer.sight(&recorded.drawing, &mut cells), n > 0);
         for (i, row) in recorded.rows.iter().enumerate() {
-            let cells = (0..n).map(|j| if seen.sees(i, j) { '1' } else { '0' });
-            assert_eq!(*row, cells.collect::<String>(), "row {i} of {:?}", recorded.drawing);
+            let told = cells[i * ROW..][..n].iter().map(u8::to_string);
+            assert_eq!(*row, told.collect::<String>(), "row {i} of {:?}", recorded.drawing);
         }
+        let beside = |at: &usize| at / ROW >= n || at % ROW >= n;
+        assert!((0..CELLS).filter(beside).all(|at| cells[at] == 7), "{:?}", recorded.drawing);
     }
 }
 
@@ -158,6 +159,7 @@ fn outlines_to_try() {
     assert_eq!(given(&H, &Z), two);
     let z = sight(&corners(&Z));
     assert!(z.sees(0, 3) && !z.sees(0, 4) && !z.sees(1, 3));
+    assert!(z.centre_sees(0, 3) && !z.centre_sees(0, 4) && !z.centre_sees(1, 3));
     assert_eq!(number(&CROSSED, &S), 4);
     assert_eq!(number(&BACKWARDS, &S), 5);
     assert_eq!(number(&S, &BACKWARDS), 8);
@@ -169,7 +171,8 @@ fn outlines_to_try() {
     assert_eq!((number(&beyond, &border), number(&border, &beyond)), (3, 6));
     assert_eq!(number(&[0, 0, 2, 0, 4, 0], &[0, 0, 2, 0, 4, 1]), 4);
     assert_eq!(number(&[0, 0, 4, 0, 4, 4, 4, 0], &S), 4);
-    assert_eq!(call(&RECTANGLE, &RECTANGLE, 30).0.pieces, 2);
+    // 02, K3; in 01 it is two pieces.
+    assert_eq!(given(&RECTANGLE, &RECTANGLE), [8, 0, 0, 1, 2, 3, 4, 5, 6, 7]);
 }
 
 #[test]

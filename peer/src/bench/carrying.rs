@@ -12,9 +12,9 @@ use super::race::{passes, time, Turns};
 use super::table::{line, told};
 use crate::desk;
 use crate::desks::{compare_call, Desk};
-use crate::drawing::FARTHEST;
+use crate::drawing::{corners, FARTHEST};
 use crate::library::Library;
-use crate::marks::{wedges, Mark};
+use crate::marks::{at, holds, wedges, Mark, Wedge};
 use crate::pairs::calls::Call;
 use crate::pairs::Pair;
 use std::hint::black_box;
@@ -60,14 +60,18 @@ pub fn measure(turns: Turns, library: &Library, pairs: &[Pair]) -> Result<Vec<Ti
     Ok((0..MORE * turns.count).map(turn).collect())
 }
 
-/// The corner that the answer's wedges come to last: no mark that lands has more of them looked at.
-/// None without an answer.
+/// The corner that the answer's wedges come to last, those without area being passed over. None
+/// without an answer.
 pub fn last_mark(pair: &Pair) -> Option<Mark> {
     let mut room = [0; ROOM];
     let outcome = desk::answer(&pair.first, &pair.second, &mut room);
     let wedges = wedges(&desk::told(&room[..outcome.bytes]));
-    let reached = |i: usize| Some((wedges.iter().position(|wedge| wedge.contains(&i))?, i));
-    let (_, last) = (0..pair.first.len() / 2).filter_map(reached).max()?;
+    let first = corners(&pair.first);
+    let reached = |i: usize| {
+        let held = |wedge: &Wedge| holds(at(&first, wedge), first[i]);
+        Some((wedges.iter().position(held)?, i))
+    };
+    let (_, last) = (0..first.len()).filter_map(reached).max()?;
     Some(Mark { x: pair.first[2 * last], y: pair.first[2 * last + 1] })
 }
 

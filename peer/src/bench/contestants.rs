@@ -2,9 +2,10 @@
 
 use super::STAGES;
 use crate::desks::{Desk, CELLS};
-use crate::drawing::{self, Sight, MOST_CORNERS};
+use crate::drawing::{self, MOST_CORNERS};
 use crate::library::Library;
 use crate::pairs::Pair;
+use crate::sight::{sight, Sight};
 use crate::{cutting, desk, rival};
 use std::hint::black_box;
 
@@ -54,19 +55,19 @@ fn search(pairs: &[Pair], search: desk::Search) -> (Work<'_>, Work<'_>) {
 }
 
 fn sights(pair: &Pair) -> [Sight; 2] {
-    [&pair.first, &pair.second].map(|list| drawing::sight(&drawing::corners(list)))
+    [&pair.first, &pair.second].map(|list| sight(&drawing::corners(list)))
 }
 
 /// A library that serves the pairs. Its cells are its own matter: what it puts into them is only
 /// handed back to it.
 pub fn library<'a>(library: &'a Library, pairs: &'a [Pair]) -> Works<'a> {
-    let sight = |list: &[i32]| {
+    let cells = |list: &[i32]| {
         let mut cells = vec![0; CELLS];
         library.sight(list, &mut cells);
         cells
     };
     let seen: Vec<[Vec<u8>; 2]> =
-        pairs.iter().map(|pair| [&pair.first, &pair.second].map(|list| sight(list))).collect();
+        pairs.iter().map(|pair| [&pair.first, &pair.second].map(|list| cells(list))).collect();
     let mut lent = [vec![0; CELLS], vec![0; CELLS]];
     let (mut cut_room, mut room) = ([0; ROOM], [0; ROOM]);
     let judging: Work = Box::new(move |k| {

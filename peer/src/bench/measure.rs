@@ -1,4 +1,6 @@
-//! One row of the benchmark: who takes part is first held to the peer's answers, then measured.
+//! One row of the benchmark: who takes part is first held to the peer, then measured. The product and
+//! the rival give the peer's answers. Of the library of another checkout, whose rules may have been
+//! others, only what no rule has changed is asked.
 
 use super::contestants::{self, Works, ROOM};
 use super::race::{race, Turns};
@@ -27,26 +29,30 @@ pub struct Measured {
 }
 
 pub fn measure(turns: Turns, libraries: &Libraries, pairs: &[Pair]) -> Result<Measured, String> {
+    let before = libraries.before.as_ref().filter(|before| serves(before, pairs));
     for pair in pairs {
         rival_agrees(pair)?;
         libraries.product.as_ref().map_or(Ok(()), |product| product_agrees(product, pair))?;
+        before.map_or(Ok(()), |before| before_agrees(before, before.judges(), pair))?;
     }
     let cut = pairs.iter().filter(|pair| number(&Peer, pair) == 0).count();
     let works = [
         contestants::peer(pairs),
         contestants::rival(pairs),
-        work(libraries.before.as_ref(), pairs),
+        work(before, pairs),
         work(libraries.product.as_ref(), pairs),
     ];
     let [peer, rival, before, product] = race(turns, works, pairs.len());
     Ok(Measured { cut: format!("{cut}/{}", pairs.len()), peer, rival, product, before })
 }
 
-/// The work of a library on pairs that it serves. An earlier one may have had other limits, and
-/// other answers.
 fn work<'a>(library: Option<&'a Library>, pairs: &'a [Pair]) -> Works<'a> {
-    let serves = |library: &&Library| pairs.iter().all(|p| [0, 9].contains(&number(*library, p)));
-    library.filter(serves).map_or(Works::default(), |it| contestants::library(it, pairs))
+    library.map_or(Works::default(), |it| contestants::library(it, pairs))
+}
+
+/// Whether a library answers all the pairs. An earlier one may have had other limits.
+fn serves(library: &Library, pairs: &[Pair]) -> bool {
+    pairs.iter().all(|pair| [0, 9].contains(&number(library, pair)))
 }
 
 fn number(desk: &impl Desk, pair: &Pair) -> u8 {
@@ -69,11 +75,7 @@ fn rival_agrees(pair: &Pair) -> Result<(), String> {
 /// So does the product, in every stage.
 fn product_agrees(product: &Library, pair: &Pair) -> Result<(), String> {
     let lists = [&pair.first, &pair.second];
-    let [first, second] = lists.map(|list| {
-        let mut cells = vec![0; CELLS];
-        Peer.sight(list, &mut cells);
-        cells
-    });
+    let [first, second] = lists.map(|list| cells(&Peer, list));
     let room = vec![0; ROOM];
     let n = pair.first.len() / 2;
     let mut calls = vec![
@@ -85,4 +87,25 @@ fn product_agrees(product: &Library, pair: &Pair) -> Result<(), String> {
         calls.push(Call::Sight { list, cells: vec![0; CELLS] });
     }
     calls.iter().try_for_each(|call| compare_call(product, call))
+}
+
+/// Another library judges the drawings alike, if it has a call for that, and sees alike by the
+/// strict rule. Its cells may tell a centre's sight besides, or not; its cuttings follow from them.
+pub fn before_agrees(before: &impl Desk, judges: bool, pair: &Pair) -> Result<(), String> {
+    for list in [&pair.first, &pair.second] {
+        if judges && before.judge(list) != Peer.judge(list) {
+            return Err(format!("the other library judges otherwise: {list:?}"));
+        }
+        let strict = |cells: Vec<u8>| -> Vec<u8> { cells.iter().map(|cell| cell % 2).collect() };
+        if strict(cells(before, list)) != strict(cells(&Peer, list)) {
+            return Err(format!("the other library sees otherwise, by the strict rule: {list:?}"));
+        }
+    }
+    Ok(())
+}
+
+fn cells(desk: &impl Desk, list: &[i32]) -> Vec<u8> {
+    let mut cells = vec![0; CELLS];
+    desk.sight(list, &mut cells);
+    cells
 }

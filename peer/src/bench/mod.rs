@@ -13,7 +13,9 @@ pub mod table;
 /// of these in one call.
 pub const STAGES: [&str; 4] = ["judging", "sight", "cutting", "whole"];
 
-/// The place of the whole among them.
+/// The places of some among them.
+pub const JUDGING: usize = 0;
+pub const SIGHT: usize = 1;
 pub const WHOLE: usize = 3;
 
 /// Microseconds a pair, for each stage that was measured.

@@ -3,7 +3,7 @@
 use crate::drawing::{Corner, MOST_CORNERS};
 use crate::pairs::dice::Dice;
 use crate::pairs::shapes::{self, Shape};
-use crate::pairs::Pair;
+use crate::pairs::{squared, Pair};
 
 const SEED: u64 = 1;
 
@@ -13,13 +13,16 @@ const PAIRS: usize = 16;
 /// A kind of pairs: its name, and its pairs of n corners.
 pub type Kind = (&'static str, fn(usize) -> Vec<Pair>);
 
-pub const KINDS: [Kind; 9] = [
+pub const KINDS: [Kind; 12] = [
     ("convex with itself", convex),
     ("spiral, sheared copy", spiral),
     ("two stars", two_stars),
     ("star with itself", |n| with_itself(Shape::Star, n)),
     ("comb with itself", |n| with_itself(Shape::Comb, n)),
     ("wall on squared paper", wall),
+    ("rectangle, straight corners", rectangle),
+    ("comb on squares", comb_on_squares),
+    ("corners on one line", one_line),
     ("traced blob", |n| with_itself(Shape::Blob, n)),
     ("traced limb", |n| with_itself(Shape::Limb, n)),
     ("grown by chance", |n| with_itself(Shape::Wide, n)),
@@ -61,6 +64,32 @@ fn wall(n: usize) -> Vec<Pair> {
         let bends = |&(x, y): &(i64, i64)| y == 2 || 0 < x && x < width;
         drawing.extend(corners.iter().filter(|c| bends(c)).map(|&(x, y)| Corner::at(x, y)));
     }
+    vec![Pair::of(&[drawing.clone(), drawing])]
+}
+
+/// A square with a straight corner at each step: n/4 corners a side.
+fn rectangle(n: usize) -> Vec<Pair> {
+    let side = n as i64 / 4;
+    let steps = || 0..side;
+    let lower = steps().map(|k| Corner::at(k, 0)).chain(steps().map(|k| Corner::at(side, k)));
+    let upper = steps().map(|k| Corner::at(side - k, side));
+    let left = steps().map(|k| Corner::at(0, side - k));
+    let drawing: Vec<Corner> = lower.chain(upper).chain(left).collect();
+    vec![Pair::of(&[drawing.clone(), drawing])]
+}
+
+/// Teeth three squares high: lines along their tops touch them from outside, lines along the gaps
+/// between them from inside.
+fn comb_on_squares(n: usize) -> Vec<Pair> {
+    let drawing = squared::battlements(n / 4, 3);
+    vec![Pair::of(&[drawing.clone(), drawing])]
+}
+
+/// All corners but one.
+fn one_line(n: usize) -> Vec<Pair> {
+    let along = n as i64 - 1;
+    let mut drawing: Vec<Corner> = (0..along).map(|x| Corner::at(x, 0)).collect();
+    drawing.push(Corner::at(along / 2, along));
     vec![Pair::of(&[drawing.clone(), drawing])]
 }
 

@@ -1,7 +1,7 @@
 //! Tables that set two contestants beside each other, in the form in which docs/PERFORMANCE.md has
 //! them.
 
-use super::{Times, STAGES, WHOLE};
+use super::{Times, JUDGING, SIGHT, STAGES, WHOLE};
 
 /// A line of a table: the kind of the pairs, their number of corners, how many of them get a
 /// cutting, and the times of the two contestants.
@@ -29,6 +29,27 @@ pub fn table(names: [&str; 2], rows: &[Row]) -> String {
     for (k, row) in rows.iter().enumerate() {
         let half = k.checked_sub(1).map(|k| &rows[k]).filter(|half| half.kind == row.kind);
         lines.push(line(&cells(&stages, row, half)));
+    }
+    lines.concat()
+}
+
+/// The table that holds two calls of sight against each other by what both have to do: judge the
+/// drawings and look. Of a contestant whose sight does not judge, its judging is added.
+pub fn sight_table(names: [&str; 2], judges: [bool; 2], rows: &[Row]) -> String {
+    let mut heading: Vec<String> = ["pairs", "n"].map(String::from).to_vec();
+    for (name, judges) in names.into_iter().zip(judges) {
+        heading.push(format!("{name}: {}", if judges { "sight" } else { "judging + sight" }));
+    }
+    heading.push("ratio".into());
+    let mut lines = vec![line(&heading), line(&vec!["---".into(); heading.len()])];
+    for Row { kind, n, times, .. } in rows {
+        let whole = |who: usize| {
+            let judging = if judges[who] { Some(0.0) } else { times[who][JUDGING] };
+            Some(judging? + times[who][SIGHT]?)
+        };
+        let [one, other] = [whole(0), whole(1)];
+        let ratio = told(ratio(one, other));
+        lines.push(line(&[kind.to_string(), n.to_string(), told(one), told(other), ratio]));
     }
     lines.concat()
 }

@@ -7,7 +7,7 @@ use peer::bench::carrying;
 use peer::bench::measure::{measure, Libraries, Measured};
 use peer::bench::race::Turns;
 use peer::bench::rates::{rates, Run};
-use peer::bench::table::{table, Row};
+use peer::bench::table::{sight_table, table, Row};
 use peer::bench::{rows, Times};
 use peer::drawing::MOST_CORNERS;
 use peer::frames;
@@ -52,21 +52,41 @@ fn bench(turns: Turns, folders: &[PathBuf]) -> Result<(), String> {
             measured.push((kind, n, measure(turns, &libraries, &pairs(n))?));
         }
     }
-    println!("Microseconds a pair, the best of {} turns.", turns.count);
+    println!(
+        "Microseconds a pair, the best of {} turns. The product's call of sight judges the drawing \
+         too, and serves a sound one alone: its times of sight have a judging in them. The peer's do not.",
+        turns.count
+    );
     for (names, two) in tables(&libraries) {
-        let row = |(kind, n, measured): &(&'static str, usize, Measured)| Row {
-            kind,
-            n: *n,
-            cut: measured.cut.clone(),
-            times: two(measured),
-        };
-        let rows: Vec<Row> = measured.iter().map(row).collect();
-        println!("\n{}", table(names, &rows));
+        println!("\n{}", table(names, &rows_of(&measured, two)));
+    }
+    if let (Some(before), Some(after)) = (&libraries.before, &libraries.product) {
+        let judges = [before.sight_judges(), after.sight_judges()];
+        let rows = rows_of(&measured, |m| [m.before, m.product]);
+        println!(
+            "Sight from drawings that nobody has judged, the two calls beside each other: where a call \
+             of sight does not judge, the time of the judging is added.\n\n{}",
+            sight_table(["before", "after"], judges, &rows)
+        );
     }
     if let Some(product) = &libraries.product {
         print_carrying(turns, product)?;
     }
     print_rates(turns.count.min(BIG_TURNS), folders)
+}
+
+/// The rows of a table with two contestants' times.
+fn rows_of(
+    measured: &[(&'static str, usize, Measured)],
+    two: fn(&Measured) -> [Times; 2],
+) -> Vec<Row> {
+    let row = |(kind, n, measured): &(&'static str, usize, Measured)| Row {
+        kind,
+        n: *n,
+        cut: measured.cut.clone(),
+        times: two(measured),
+    };
+    measured.iter().map(row).collect()
 }
 
 /// The names of two contestants, and their times.

@@ -4,6 +4,7 @@ use super::dice::Dice;
 use super::{marks, pair_up_to, Kind, Pair};
 use crate::desks::{Desk, Peer, CELLS, ROW};
 use crate::marks::Mark;
+use crate::sight;
 
 /// How many marks of a pair are carried in a round.
 const MARKS: usize = 2;
@@ -87,8 +88,12 @@ fn sight_of(dice: &mut Dice, list: &[i32]) -> Vec<u8> {
     cells
 }
 
-/// Cells that say so many times in ten that one corner sees another; each way has its own cell.
+/// Cells of any value that say so many times in ten that one corner sees another, the strict kind
+/// and the centre's each by itself; each way has its own cell.
 fn any_cells(dice: &mut Dice, of_ten: usize) -> Vec<u8> {
-    let mut cell = || if dice.below(10) < of_ten { 1 + dice.below(255) as u8 } else { 0 };
+    let mut cell = || {
+        let [strict, centre] = [(); 2].map(|()| dice.below(10) < of_ten);
+        4 * dice.below(64) as u8 + sight::cell(strict, centre)
+    };
     (0..CELLS + 7).map(|_| cell()).collect()
 }

@@ -7,6 +7,7 @@ pub mod marks;
 pub mod partners;
 pub mod rules;
 pub mod shapes;
+pub mod squared;
 pub mod streams;
 pub mod traced;
 
@@ -58,12 +59,16 @@ pub enum Kind {
 }
 
 /// The kinds whose pairs can be told in frames, by name.
-pub const KINDS: [(&str, Kind); 11] = [
+pub const KINDS: [(&str, Kind); 15] = [
     ("grid", Kind::Shaped(Shape::Grid)),
     ("wide", Kind::Shaped(Shape::Wide)),
     ("spiral", Kind::Shaped(Shape::Spiral)),
     ("comb", Kind::Shaped(Shape::Comb)),
     ("rectilinear", Kind::Shaped(Shape::Rectilinear)),
+    ("rectangle", Kind::Shaped(Shape::Rectangle)),
+    ("battlements", Kind::Shaped(Shape::Battlements)),
+    ("stairs", Kind::Shaped(Shape::Stairs)),
+    ("levels", Kind::Shaped(Shape::Levels)),
     ("star", Kind::Shaped(Shape::Star)),
     ("convex", Kind::Shaped(Shape::Convex)),
     ("blob", Kind::Shaped(Shape::Blob)),

@@ -1,11 +1,10 @@
 //! Sound drawings of many shapes. Each shape is asked for n corners and gives just so many.
 
 use super::dice::Dice;
-use super::traced;
+use super::{squared, traced};
 use crate::drawing::{
     doubled_area, in_range, judge, share_a_point, share_only, turn, Corner, Judged, FARTHEST,
 };
-use std::collections::{BTreeMap, BTreeSet};
 
 #[derive(Clone, Copy, Debug, PartialEq, Eq)]
 pub enum Shape {
@@ -15,7 +14,15 @@ pub enum Shape {
     Wide,
     Spiral,
     Comb,
+    /// Squares joined side to side.
     Rectilinear,
+    /// A rectangle with straight corners.
+    Rectangle,
+    /// A wall with teeth of squares.
+    Battlements,
+    Stairs,
+    /// Corners on two level lines, all but one of them on one line perhaps.
+    Levels,
     Star,
     Convex,
     /// Something round, traced from a photograph.
@@ -24,12 +31,16 @@ pub enum Shape {
     Limb,
 }
 
-pub const SHAPES: [Shape; 9] = [
+pub const SHAPES: [Shape; 13] = [
     Shape::Grid,
     Shape::Wide,
     Shape::Spiral,
     Shape::Comb,
     Shape::Rectilinear,
+    Shape::Rectangle,
+    Shape::Battlements,
+    Shape::Stairs,
+    Shape::Levels,
     Shape::Star,
     Shape::Convex,
     Shape::Blob,
@@ -44,7 +55,11 @@ pub fn drawing(dice: &mut Dice, shape: Shape, n: usize) -> Vec<Corner> {
             Shape::Wide => grow(dice, n, FARTHEST),
             Shape::Spiral => some_spiral(dice, n),
             Shape::Comb => comb(dice, n),
-            Shape::Rectilinear => rectilinear(dice, n),
+            Shape::Rectilinear => squared::rectilinear(dice, n),
+            Shape::Rectangle => squared::rectangle(dice, n),
+            Shape::Battlements => squared::some_battlements(dice, n),
+            Shape::Stairs => squared::stairs(dice, n),
+            Shape::Levels => Some(squared::levels(dice, n)),
             Shape::Star => star(dice, n),
             Shape::Convex => convex(dice, n),
             Shape::Blob => Some(traced::blob(dice, n)),
@@ -167,66 +182,6 @@ fn comb(dice: &mut Dice, n: usize) -> Option<Vec<Corner>> {
     Some(corners)
 }
 
-/// The outline of squares joined side to side, with or without its straight corners.
-fn rectilinear(dice: &mut Dice, n: usize) -> Option<Vec<Corner>> {
-    let mut squares = BTreeSet::from([(0, 0)]);
-    let mut outline = outline_of(&squares)?;
-    let straight = dice.once_in(2);
-    for _ in 0..4 * n {
-        let side = dice.below(outline.len());
-        let square = square_beyond(outline[side], outline[(side + 1) % outline.len()]);
-        squares.insert(square);
-        let fits = |grown: &Vec<Corner>| {
-            grown.len() <= n || !straight && without_straight(grown).len() <= n
-        };
-        match outline_of(&squares).filter(fits) {
-            Some(grown) => outline = grown,
-            None => {
-                squares.remove(&square);
-            }
-        }
-    }
-    if !straight {
-        outline = without_straight(&outline);
-    }
-    with_corners(dice, outline, n)
-}
-
-/// The square, named by its lower left corner, on the outer side of a step of the outline.
-fn square_beyond(a: Corner, b: Corner) -> (i64, i64) {
-    let (dx, dy) = (b.x - a.x, b.y - a.y);
-    let twice = (a.x + b.x + dy, a.y + b.y - dx);
-    ((twice.0 - 1).div_euclid(2), (twice.1 - 1).div_euclid(2))
-}
-
-/// The outline in steps of one, if it is one loop that does not touch itself.
-fn outline_of(squares: &BTreeSet<(i64, i64)>) -> Option<Vec<Corner>> {
-    let mut steps = BTreeMap::new();
-    for &(x, y) in squares {
-        let corners = [(x, y), (x + 1, y), (x + 1, y + 1), (x, y + 1)];
-        let beyond = [(x, y - 1), (x + 1, y), (x, y + 1), (x - 1, y)];
-        for side in (0..4).filter(|&side| !squares.contains(&beyond[side])) {
-            if steps.insert(corners[side], corners[(side + 1) % 4]).is_some() {
-                return None;
-            }
-        }
-    }
-    let (&start, &(mut at)) = steps.first_key_value()?;
-    let mut outline = vec![start];
-    while at != start {
-        outline.push(at);
-        at = steps[&at];
-    }
-    let corner = |(x, y)| Corner::at(x, y);
-    (outline.len() == steps.len()).then(|| outline.into_iter().map(corner).collect())
-}
-
-fn without_straight(drawing: &[Corner]) -> Vec<Corner> {
-    let n = drawing.len();
-    let bends = |k: &usize| turn(drawing[(k + n - 1) % n], drawing[*k], drawing[(k + 1) % n]) != 0;
-    (0..n).filter(bends).map(|k| drawing[k]).collect()
-}
-
 /// Corners in all directions, taken in turn.
 fn star(dice: &mut Dice, n: usize) -> Option<Vec<Corner>> {
     let reach = dice.pick(&[6, 12, 100, 10_000, FARTHEST]).max(2 * n as i64);
@@ -272,7 +227,7 @@ fn convex(dice: &mut Dice, n: usize) -> Option<Vec<Corner>> {
 }
 
 /// The drawing with n corners: some left out, or straight ones put into its sides.
-fn with_corners(dice: &mut Dice, mut drawing: Vec<Corner>, n: usize) -> Option<Vec<Corner>> {
+pub fn with_corners(dice: &mut Dice, mut drawing: Vec<Corner>, n: usize) -> Option<Vec<Corner>> {
     let mut tries = 0;
     while drawing.len() != n {
         tries += 1;

@@ -2,6 +2,7 @@
 //! cutting and a mark that is carried, or the marks of a refusal.
 
 use super::colours::COLOURS;
+use super::grazing::{self, lines_of_sight, Grazing};
 use super::labels::{font, leader, Label, Surroundings};
 use super::marks::{Marks, Meeting};
 use super::plane::{distance, point, roomiest, sides, Point, Scale};
@@ -15,6 +16,9 @@ pub const MARGIN: f64 = 24.0;
 
 /// The greatest radius of a centre's wedge.
 const WEDGE: f64 = 13.0;
+
+/// The colour of lines that one drawing sees and the other does not, as `style.css` has it.
+const SEEN: &str = "#0b62a8";
 
 /// The radius of a ring about what is marked, and how many there are at most.
 const RING: f64 = 7.5;
@@ -65,7 +69,8 @@ pub fn figure(
     let labels = surroundings.labels();
     let on_outline = match content {
         Content::Cut(pieces, colours, _) => {
-            cut(&outline, &labels, &rings, pieces, colours) + &diamonds(&rings)
+            let grazing = grazing::of_pieces(drawing, pieces);
+            cut(&outline, &labels, &rings, pieces, colours, &grazing) + &diamonds(&rings)
         }
         Content::Refused(marks) => refused(&outline, marks, &rings),
     };
@@ -110,6 +115,7 @@ fn cut(
     rings: &[(Point, f64)],
     pieces: &[Piece],
     colours: &[usize],
+    grazing: &[Vec<Grazing>],
 ) -> String {
     let mut text = String::new();
     for (k, (piece, &colour)) in pieces.iter().zip(colours).enumerate() {
@@ -117,18 +123,23 @@ fn cut(
         let region = region(outline, piece);
         text += &svg::titled_polygon("piece", COLOURS[colour].fill, &region, &words);
     }
-    for (piece, &colour) in pieces.iter().zip(colours) {
-        let lines = lines_of_sight(outline, piece);
-        text += &svg::coloured_segments("sight", COLOURS[colour].dark, &lines);
+    for ((piece, grazing), &colour) in pieces.iter().zip(grazing).zip(colours) {
+        let grazes = |line: &&[usize; 2]| grazing.iter().any(|other| other.ends == **line);
+        let clear: Vec<[usize; 2]> =
+            lines_of_sight(piece).iter().filter(|line| !grazes(line)).copied().collect();
+        text += &svg::coloured_segments("sight", COLOURS[colour].dark, &placed(outline, &clear));
+        text += &grazing_lines(outline, grazing, COLOURS[colour].dark);
     }
-    let cuts: Vec<[Point; 2]> =
-        cuts(outline.len(), pieces).iter().map(|cut| cut.map(|i| outline[i])).collect();
+    let cuts = placed(outline, &cuts(outline.len(), pieces));
     text += &svg::segments("cut-edge", &cuts);
     text += &svg::segments("cut", &cuts);
     for (piece, &colour) in pieces.iter().zip(colours) {
         text += &wedge(outline, piece, COLOURS[colour].dark);
     }
     text += &border(outline);
+    for (grazing, &colour) in grazing.iter().zip(colours) {
+        text += &dots(outline, grazing, COLOURS[colour].dark);
+    }
     for piece in pieces {
         text += &svg::circle("centre", outline[piece.centre], ring(outline.len()));
     }
@@ -171,10 +182,28 @@ pub fn cuts(n: usize, pieces: &[Piece]) -> Vec<[usize; 2]> {
     cuts
 }
 
-/// From the centre to each other corner of the piece.
-fn lines_of_sight(outline: &[Point], piece: &Piece) -> Vec<[Point; 2]> {
-    let others = piece.corners.iter().filter(|&&i| i != piece.centre);
-    others.map(|&i| [outline[piece.centre], outline[i]]).collect()
+/// Lines between corners, on the page.
+fn placed(outline: &[Point], lines: &[[usize; 2]]) -> Vec<[Point; 2]> {
+    lines.iter().map(|line| line.map(|i| outline[i])).collect()
+}
+
+/// The lines that touch a third corner, if there are any: broad, so that one that runs along the
+/// outline shows on either side of it.
+fn grazing_lines(outline: &[Point], grazing: &[Grazing], colour: &str) -> String {
+    if grazing.is_empty() {
+        return String::new();
+    }
+    let lines: Vec<[usize; 2]> = grazing.iter().map(|line| line.ends).collect();
+    svg::coloured_segments("grazing", colour, &placed(outline, &lines))
+}
+
+/// A dot on each corner that is touched.
+fn dots(outline: &[Point], grazing: &[Grazing], colour: &str) -> String {
+    let mut touched: Vec<usize> = grazing.iter().flat_map(|line| line.touched.clone()).collect();
+    touched.sort();
+    touched.dedup();
+    let radius = ring(outline.len());
+    touched.iter().map(|&i| svg::dot("touched", colour, outline[i], radius)).collect()
 }
 
 /// The angle of the piece at its centre, filled: it shows which piece has its centre there.
@@ -201,7 +230,7 @@ fn letter(
     name: &str,
 ) -> String {
     let region = region(outline, piece);
-    let sight = lines_of_sight(outline, piece);
+    let sight = placed(outline, &lines_of_sight(piece));
     let from_labels = |p: Point| {
         let rooms = labels.iter().map(|label| label.distance(p));
         let from_rings = rings.iter().map(|(middle, radius)| middle.to(p).length() - radius);
@@ -224,11 +253,14 @@ fn letter(
 
 fn refused(outline: &[Point], marks: &Marks, rings: &[(Point, f64)]) -> String {
     let mut text = svg::polygon("plain", outline);
-    if let Marks::Seen(lines) = marks {
-        let lines: Vec<[Point; 2]> = lines.iter().map(|line| line.map(|i| outline[i])).collect();
-        text += &svg::segments("seen", &lines);
+    if let Marks::Seen(lines, grazing) = marks {
+        text += &svg::segments("seen", &placed(outline, lines));
+        text += &grazing_lines(outline, grazing, SEEN);
     }
     text += &border(outline);
+    if let Marks::Seen(_, grazing) = marks {
+        text += &dots(outline, grazing, SEEN);
+    }
     for &(middle, radius) in rings {
         text += &svg::circle("mark", middle, radius);
     }
@@ -251,7 +283,7 @@ fn rings(outline: &[Point], marks: &Marks) -> Vec<(Point, f64)> {
             };
             meetings.iter().map(middle).collect()
         }
-        Marks::Nothing | Marks::Way | Marks::Seen(_) => Vec::new(),
+        Marks::Nothing | Marks::Way | Marks::Seen(..) => Vec::new(),
     };
     middles.into_iter().take(MOST_RINGS).map(|middle| (middle, RING)).collect()
 }

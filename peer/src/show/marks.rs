@@ -1,9 +1,11 @@
 //! What is marked in a refused drawing, so that the refusal can be seen. The marks follow the
 //! program's number; where there is nothing to mark, none is drawn.
 
+use super::grazing::{touched, Grazing};
 use super::reading::Drawing;
 use super::words::{counted, grouped};
-use crate::drawing::{in_range, sight, turn, Corner, Sight, FARTHEST, FEWEST_CORNERS};
+use crate::drawing::{in_range, judge, turn, Corner, Judged, FARTHEST};
+use crate::sight::sight;
 
 /// How many marks are told in words, the others being counted.
 const MOST_TOLD: usize = 3;
@@ -16,8 +18,9 @@ pub enum Marks {
     Meetings(Vec<Meeting>),
     /// The way round that the corners run.
     Way,
-    /// Lines that this drawing sees and the other does not.
-    Seen(Vec<[usize; 2]>),
+    /// What this drawing sees and the other does not: lines by the strict rule, and others that only
+    /// a centre sees.
+    Seen(Vec<[usize; 2]>, Vec<Grazing>),
 }
 
 /// Two sides, told by the corners where they begin, that share a point: how far along the first.
@@ -31,7 +34,7 @@ pub fn of(number: u8, [first, second]: &[Drawing; 2]) -> [Marks; 2] {
     match number {
         3..=5 => [of_one(number, first), Marks::Nothing],
         6..=8 => [Marks::Nothing, of_one(number - 3, second)],
-        9 => seen(first, second).map(Marks::Seen),
+        9 => [seen(first, second), seen(second, first)],
         _ => [Marks::Nothing, Marks::Nothing],
     }
 }
@@ -58,10 +61,21 @@ pub fn words(marks: &Marks, which: &str, drawing: &[Corner]) -> Option<String> {
             format!("{a} and {b}")
         })
         .map(|list| format!("Sides of the {which} drawing that meet: {list}.")),
-        Marks::Seen(lines) => Some(format!(
-            "Drawn in the {which}: {} that it sees and the other does not.",
-            counted(lines.len(), "line")
-        )),
+        Marks::Seen(lines, grazing) => {
+            let lines = counted(lines.len(), "line");
+            let more = grazing.len();
+            let dashed = match more {
+                0 => String::new(),
+                _ => format!(
+                    "; dashed, {} that touch{} a third corner, which only its centres see",
+                    counted(more, "line"),
+                    if more == 1 { "es" } else { "" }
+                ),
+            };
+            Some(format!(
+                "Drawn in the {which}: {lines} that it sees and the other does not{dashed}."
+            ))
+        }
         Marks::Way => Some(format!("Arrows show how the {which} drawing runs.")),
         Marks::Nothing => None,
     }
@@ -75,19 +89,21 @@ fn told<T>(marks: &[T], noun: &str, one: impl Fn(&T) -> String) -> Option<String
     (!list.is_empty()).then(|| list.join(", "))
 }
 
-/// The lines that each drawing sees and the other does not. 01, "Sight".
-fn seen(first: &[Corner], second: &[Corner]) -> [Vec<[usize; 2]>; 2] {
-    let n = first.len();
-    if second.len() != n || n < FEWEST_CORNERS {
-        return [Vec::new(), Vec::new()];
+/// What one drawing sees and the other does not. 01, "Sight", and 02, K3. Only sound drawings are
+/// looked at: a program may say 9 of others.
+fn seen(one: &[Corner], other: &[Corner]) -> Marks {
+    if one.len() != other.len() || [one, other].iter().any(|d| judge(d) != Judged::Sound) {
+        return Marks::Seen(Vec::new(), Vec::new());
     }
-    let (first, second) = (sight(first), sight(second));
-    let lines = || (0..n).flat_map(|i| (i + 1..n).map(move |j| [i, j]));
-    let only = |one: &Sight, other: &Sight| {
-        let lines = lines().filter(|&[i, j]| one.sees(i, j) && !other.sees(i, j));
-        lines.collect()
-    };
-    [only(&first, &second), only(&second, &first)]
+    let (here, there) = (sight(one), sight(other));
+    let lines = (0..one.len()).flat_map(|i| (i + 1..one.len()).map(move |j| [i, j]));
+    let strict = |&[i, j]: &[usize; 2]| here.sees(i, j) && !there.sees(i, j);
+    let grazing = |&[i, j]: &[usize; 2]| here.cell(i, j) == 2 && !there.centre_sees(i, j);
+    let touching = |ends| Grazing { ends, touched: touched(one, ends) };
+    Marks::Seen(
+        lines.clone().filter(strict).collect(),
+        lines.filter(grazing).map(touching).collect(),
+    )
 }
 
 /// For any two sides that share a point other than a common corner, one such point.

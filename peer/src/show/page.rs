@@ -2,6 +2,7 @@
 
 use super::colours::{self, COLOURS};
 use super::figure::{self, Content, MARGIN};
+use super::grazing;
 use super::landings::{self, Landing};
 use super::marks::{self, Marks};
 use super::plane::{point, Point, Scale};
@@ -57,7 +58,9 @@ fn whole(frames: &[u8], answers: Option<&[u8]>, carried: Option<Carried>) -> Str
     let frames = reading::frames(frames);
     let known = answers.is_some();
     let answers = answers.map_or(Vec::new(), reading::answers);
-    let mut page = Page { carried, ..Page::default() };
+    let mut shown = frames.pairs.iter().zip(&answers).take(MOST_PAIRS);
+    let grazing = shown.any(|(pair, answer)| touches(pair, answer));
+    let mut page = Page { carried, grazing, ..Page::default() };
     page.head(&frames, &answers, known);
     for (k, pair) in frames.pairs.iter().enumerate().take(MOST_PAIRS) {
         page.begin(&format!("Pair {}", k + 1));
@@ -71,9 +74,25 @@ fn whole(frames: &[u8], answers: Option<&[u8]>, carried: Option<Carried>) -> Str
     page.finish()
 }
 
+/// Whether a line that touches a third corner is to be drawn in a pair.
+fn touches(pair: &[Drawing; 2], answer: &Answer) -> bool {
+    match answer {
+        Answer::Cut(pieces) if reading::fits(pieces, pair) => pair
+            .iter()
+            .any(|drawing| grazing::of_pieces(drawing, pieces).iter().any(|l| !l.is_empty())),
+        Answer::Refused(number) => {
+            let marks = marks::of(*number, pair);
+            marks.iter().any(|marks| matches!(marks, Marks::Seen(_, lines) if !lines.is_empty()))
+        }
+        _ => false,
+    }
+}
+
 #[derive(Default)]
 struct Page {
     carried: Option<Carried>,
+    /// Whether there are lines that touch a third corner.
+    grazing: bool,
     title: String,
     /// What the page tells, for those who hear it.
     told: Vec<String>,
@@ -135,6 +154,9 @@ impl Page {
         if answers.iter().any(|answer| matches!(answer, Answer::Cut(_))) {
             self.key();
         }
+        if self.grazing {
+            self.key_of_grazing();
+        }
     }
 
     /// What the signs in a cutting mean.
@@ -163,6 +185,18 @@ impl Page {
             self.body += &svg::text("note", point(x + 30.0, self.down), words);
             x += 52.0 + CHARACTER * words.len() as f64;
         }
+    }
+
+    /// What a line means that touches a third corner. It has a row of its own, where there is one.
+    fn key_of_grazing(&mut self) {
+        self.down += 22.0;
+        let colour = &COLOURS[0];
+        let y = self.down - 4.5;
+        let [left, right] = [EDGE, EDGE + 38.0].map(|x| point(x, y));
+        self.body += &svg::coloured_segments("grazing", colour.dark, &[[left, right]]);
+        self.body += &svg::dot("touched", colour.dark, left.moved(left.to(right), 0.5), 3.6);
+        let words = "a line of sight that touches the corner with the dot: no cut may follow it";
+        self.body += &svg::text("note", point(right.x + 6.0, self.down), words);
     }
 
     fn pair(&mut self, k: usize, pair: &[Drawing; 2], answer: Option<&Answer>) {
@@ -318,7 +352,8 @@ impl Page {
         let title = svg::escaped(&self.title);
         let told = svg::escaped(&self.told.join(" "));
         let carried = self.carried.map_or("", |_| include_str!("carried.css"));
-        let style = [include_str!("style.css"), carried].concat();
+        let grazing = if self.grazing { include_str!("grazing.css") } else { "" };
+        let style = [include_str!("style.css"), carried, grazing].concat();
         let paper = svg::element(
             "rect",
             "paper",

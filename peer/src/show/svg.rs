@@ -77,6 +77,11 @@ pub fn circle(class: &str, middle: Point, radius: f64) -> String {
     element("circle", class, &[("cx", &cx), ("cy", &cy), ("r", &r)])
 }
 
+pub fn dot(class: &str, colour: &str, middle: Point, radius: f64) -> String {
+    let [cx, cy, r] = [middle.x, middle.y, radius].map(number);
+    element("circle", class, &[("fill", colour), ("cx", &cx), ("cy", &cy), ("r", &r)])
+}
+
 /// The sector of a circle anticlockwise from one direction to the other, both of length 1.
 pub fn sector(class: &str, colour: &str, middle: Point, ways: [Point; 2], radius: f64) -> String {
     let [from, to] = ways;

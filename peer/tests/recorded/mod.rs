@@ -184,7 +184,7 @@ fn table(corners: usize, words: &mut dyn Iterator<Item = &str>) -> Vec<u8> {
     cells
 }
 
-/// A drawing's coordinates, the word of its judgement, and unless it is out of range its rows of sight.
+/// A drawing's coordinates, the word of its judgement, and if it is sound its rows of sight.
 pub struct Seen {
     pub drawing: Vec<i32>,
     pub judgement: &'static str,

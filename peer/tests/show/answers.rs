@@ -69,7 +69,9 @@ fn assert_cut(page: &str, pair: &str, answer: &str) {
         assert_eq!(count(drawing, "wedge"), pieces.len());
         assert_eq!(segments(drawing, "cut").len(), pieces.len() - 1);
         let seen: usize = told.iter().map(|piece| piece.len() - 1).sum();
-        assert_eq!(segments(drawing, "sight").len(), seen);
+        let touching = segments(drawing, "grazing").len();
+        assert_eq!(segments(drawing, "sight").len() + touching, seen);
+        assert_eq!(count(drawing, "touched") > 0, touching > 0);
     }
     let drawings = drawings(page);
     assert_eq!(drawings.len(), 2);

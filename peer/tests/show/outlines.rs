@@ -55,6 +55,51 @@ fn two_pieces() {
     }
 }
 
+/// 02, K3: the rectangle is one piece, whose centre sees 2 and 3 along a side, by 1 and 2. Such lines
+/// are drawn apart, with a dot on each corner that they touch, and the key says what they are.
+#[test]
+fn lines_that_touch_a_corner() {
+    let rectangle = [0, 0, 1, 0, 2, 0, 3, 0, 3, 3, 2, 3, 1, 3, 0, 3];
+    let page = shown(&rectangle, &rectangle, "A00108000001020304050607\n");
+    assert_eq!(page.matches(KEY_OF_GRAZING).count(), 1);
+    for drawing in drawings(&page) {
+        let o = outline(drawing);
+        assert_eq!(segments(drawing, "grazing"), [[o[0], o[2]], [o[0], o[3]]]);
+        assert_eq!(segments(drawing, "sight"), [1, 4, 5, 6, 7].map(|i| [o[0], o[i]]));
+        let dots = ["cx", "cy"].map(|name| {
+            values(drawing, "touched", name).into_iter().map(hundredths).collect::<Vec<_>>()
+        });
+        assert_eq!(dots, [[o[1].x, o[2].x], [o[1].y, o[2].y]]);
+    }
+    // In one drawing of a pair alone: the other has no corner on the line.
+    let bent = [0, 0, 1, -1, 2, -1, 3, 0, 3, 3, 2, 4, 1, 4, 0, 3];
+    let page = shown(&bent, &rectangle, "A00108000001020304050607\n");
+    let touching = drawings(&page).into_iter().map(|drawing| segments(drawing, "grazing").len());
+    assert_eq!(touching.collect::<Vec<_>>(), [0, 2]);
+    assert_eq!(page.matches(KEY_OF_GRAZING).count(), 1);
+    // A program may say that a corner is a centre which sees less: that is drawn as it is said.
+    let page = shown(&Z, &Z, "A0010601000102030405\n");
+    assert!(!page.contains("grazing") && !page.contains("touched"));
+}
+
+const KEY_OF_GRAZING: &str =
+    ">a line of sight that touches the corner with the dot: no cut may follow it<";
+
+/// Nothing of them is on a page without such a line, the style neither.
+#[test]
+fn no_lines_that_touch_a_corner() {
+    let pages = [
+        shown(&S, &S, ONE),
+        shown(&Z, &H, TWO),
+        shown(&D, &E, "E009\n"),
+        shown(&CROSSED, &CROSSED, ONE),
+        shown(&CROSSED, &CROSSED, "E009\n"),
+    ];
+    for page in pages {
+        assert!(!page.contains("grazing") && !page.contains("touched"));
+    }
+}
+
 /// The answer shown is the program's, whatever the peer would say.
 #[test]
 fn another_answer() {
@@ -80,6 +125,26 @@ fn lines_that_one_drawing_sees() {
         assert_eq!(segments(drawing, "seen"), [[o[i], o[j]]]);
         assert_eq!((count(drawing, "number"), count(drawing, "piece")), (4, 0));
     }
+}
+
+/// A line that only a centre sees, and in one drawing only, is drawn apart. The first drawing has 1
+/// on the line from 0 to 2; the second has it as a notch.
+#[test]
+fn lines_that_only_centres_of_one_drawing_see() {
+    let first = [0, 0, 2, 0, 4, 0, 4, 4, 0, 4];
+    let second = [0, 0, 2, 1, 4, 0, 4, 4, 0, 4];
+    let page = shown(&first, &second, "E009\n");
+    assert!(page.contains("Drawn in the second: 0 lines that it sees and the other does not."));
+    let told: Vec<&str> = between(&page, "<desc id=\"told\">", "<");
+    assert!(told[0].contains(
+        "Drawn in the first: 0 lines that it sees and the other does not; dashed, 1 line that \
+         touches a third corner, which only its centres see."
+    ));
+    let [one, two] = [drawings(&page)[0], drawings(&page)[1]];
+    let o = outline(one);
+    assert_eq!(segments(one, "grazing"), [[o[0], o[2]]]);
+    assert_eq!((count(one, "touched"), count(two, "grazing"), count(two, "touched")), (1, 0, 0));
+    assert!(page.contains(KEY_OF_GRAZING));
 }
 
 /// The marks of a class in the first and in the second drawing.

@@ -82,7 +82,9 @@ fn the_readme_quotes_the_words() {
 /// The pictures in docs/ are what the page of their frames is now.
 #[test]
 fn the_pictures_are_of_today() {
-    for (name, said) in [("fox", "5 pieces"), ("refused", words::line(7))] {
+    let pictures =
+        [("fox", "5 pieces"), ("refused", words::line(7)), ("rectangle", "0 cuts, 1 piece")];
+    for (name, said) in pictures {
         let file = |ending: &str| above().join("docs/pictures").join(format!("{name}.{ending}"));
         let Ok(input) = std::fs::read(file("hex")) else {
             continue;
