@@ -14,7 +14,7 @@
 //! all: of the sides before and after it (level ones are never counted) both come, both go, or one
 //! takes the other's place. Odd stays odd. So one point tells for the whole stretch.
 
-use crate::drawing::{after, extents_meet, turn, Corner};
+use crate::drawing::{after, turn, Corner};
 use crate::inside::{in_or_on, Point};
 use std::cmp::Ordering;
 
@@ -66,22 +66,22 @@ pub fn centre_sees(drawing: &[Corner], i: usize, j: usize) -> bool {
 fn shared_places(drawing: &[Corner], a: Corner, b: Corner) -> Vec<Place> {
     let n = drawing.len();
     let mut places = Vec::new();
+    let mut of_d = turn(a, b, drawing[0]);
     for k in 0..n {
         let (c, d) = (drawing[k], drawing[after(n, k)]);
-        if !extents_meet(a, b, c, d) {
+        let of_c = std::mem::replace(&mut of_d, turn(a, b, d));
+        if of_c.signum() * of_d.signum() > 0 {
             continue;
         }
-        match [turn(a, b, c), turn(a, b, d)] {
+        if of_c == 0 && of_d == 0 {
             // The side's end d is where the next one begins, which finds it.
-            [0, 0] => places.extend(along(a, b, c)),
-            [of_c, of_d] if of_c.signum() * of_d.signum() <= 0 => {
-                // How far a and b lie off the line cd, each on its own side of it or on it.
-                let [of_a, of_b] = [turn(c, d, a), turn(c, d, b)];
-                if of_a.signum() * of_b.signum() <= 0 {
-                    places.push(Place { over: of_a.abs(), under: of_a.abs() + of_b.abs() });
-                }
-            }
-            _ => {}
+            places.extend(along(a, b, c));
+            continue;
+        }
+        // How far a and b lie off the line cd, each on its own side of it or on it.
+        let (of_a, of_b) = (turn(c, d, a), turn(c, d, b));
+        if of_a.signum() * of_b.signum() <= 0 {
+            places.push(Place { over: of_a.abs(), under: of_a.abs() + of_b.abs() });
         }
     }
     places

@@ -134,7 +134,7 @@ pub fn compare_call(desk: &impl Desk, call: &Call) -> Result<(), String> {
 }
 
 /// Makes that many rounds of calls, one of each kind or more a round, with any lists, cells, marks
-/// and rooms, and counts the calls.
+/// and rooms, and counts the calls. Few corners come more often than many.
 pub fn compare_calls(
     desk: &impl Desk,
     seed: u64,
@@ -144,6 +144,7 @@ pub fn compare_calls(
     let mut dice = Dice::new(seed);
     let mut made = 0;
     for _ in 0..rounds {
+        let most = dice.pick(&[8, 12, 16, 24, 40, MOST_CORNERS]).min(most);
         for call in calls::round(&mut dice, most) {
             compare_call(desk, &call)?;
             made += 1;

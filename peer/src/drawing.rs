@@ -118,8 +118,7 @@ fn straddles(a: Corner, b: Corner, c: Corner, d: Corner) -> bool {
     turn(a, b, c).signum() * turn(a, b, d).signum() <= 0
 }
 
-/// Whether the upright rectangles about two segments share a point.
-pub fn extents_meet(a: Corner, b: Corner, c: Corner, d: Corner) -> bool {
+fn extents_meet(a: Corner, b: Corner, c: Corner, d: Corner) -> bool {
     a.x.min(b.x) <= c.x.max(d.x)
         && c.x.min(d.x) <= a.x.max(b.x)
         && a.y.min(b.y) <= c.y.max(d.y)

@@ -102,7 +102,7 @@ fn a_mark_on_a_corner_lands_on_that_corner() {
 fn a_mark_on_a_line_has_one_place() {
     let mut dice = Dice::new(12);
     let mut shared = 0;
-    for cut in cut_pairs(12, 20).into_iter().filter(Cut::all_have_area) {
+    for cut in cut_pairs(12, 18).into_iter().filter(Cut::all_have_area) {
         for [c, a, b] in cut.wedges.iter().map(|wedge| marks::at(&cut.drawings[0], wedge)) {
             for [from, to] in [[c, a], [a, b], [b, c]] {
                 let Some(mark) = inner_point(&mut dice, from, to) else {
