@@ -102,22 +102,19 @@ fn a_table_has_the_stages_of_its_first_contestant() {
 /// Beside a call of sight that judges stands one that does not, with its judging.
 #[test]
 fn a_table_of_sight_adds_the_judging_that_a_call_leaves_out() {
-    let row = |n, before, after| Row {
+    let row = |n, judging, sight| Row {
         kind: "convex",
         n,
         cut: "1/1".into(),
-        times: [[before, Some(6.0), None, None], [Some(9.0), Some(4.0), None, None]].map(|t| {
-            let after: Option<f64> = after;
-            [t[0], t[1].filter(|_| after.is_some()), t[2], t[3]]
-        }),
+        times: [[judging, Some(6.0), None, None], [Some(9.0), sight, None, None]],
     };
-    let rows = [row(8, Some(2.0), Some(0.0)), row(16, None, Some(0.0)), row(32, Some(2.0), None)];
+    let rows = [row(8, Some(2.0), Some(4.0)), row(16, None, Some(4.0)), row(32, Some(2.0), None)];
     let expected = "\
 | pairs | n | before: judging + sight | after: sight | ratio |
 | --- | --- | --- | --- | --- |
 | convex | 8 | 8.00 | 4.00 | 2.00 |
 | convex | 16 | - | 4.00 | - |
-| convex | 32 | - | - | - |
+| convex | 32 | 8.00 | - | - |
 ";
     assert_eq!(sight_table(["before", "after"], [false, true], &rows), expected);
     let both = sight_table(["before", "after"], [true, true], &rows);

@@ -118,14 +118,7 @@ fn a_centre_sees_along_what_is_in_or_on_the_drawing() {
     let mut kinds = [0; 4];
     for _ in 0..400 {
         let n = 4 + dice.below(6);
-        let mut corner = || Corner::at(dice.between(0, 3), dice.between(0, 3));
-        let drawing: Vec<Corner> = (0..n).map(|_| corner()).collect();
-        let drawing = if judge(&drawing) == Judged::Sound {
-            drawing
-        } else {
-            let Some(drawing) = on_small_grid(&mut dice, n) else { continue };
-            drawing
-        };
+        let Some(drawing) = on_small_grid(&mut dice, n) else { continue };
         for (i, j) in (0..n).flat_map(|i| (0..n).map(move |j| (i, j))) {
             let (a, b) = (drawing[i], drawing[j]);
             let at = |a: i64, b: i64, p: i64, r: i64| i128::from(r * a + p * (b - a));
@@ -142,14 +135,13 @@ fn a_centre_sees_along_what_is_in_or_on_the_drawing() {
 
 /// A sound drawing with coordinates from 0 to 3, if one is found.
 fn on_small_grid(dice: &mut Dice, n: usize) -> Option<Vec<Corner>> {
-    let drawing = (0..200).find_map(|_| {
+    (0..200).find_map(|_| {
         let drawing = shapes::drawing(dice, Shape::Grid, n);
         let low = drawing.iter().fold((i64::MAX, i64::MAX), |l, c| (l.0.min(c.x), l.1.min(c.y)));
         let moved: Vec<Corner> =
             drawing.iter().map(|c| Corner::at(c.x - low.0, c.y - low.1)).collect();
         moved.iter().all(|c| c.x <= 3 && c.y <= 3).then_some(moved)
-    });
-    drawing
+    })
 }
 
 /// The corners of the whole range: the longest segments, and stretches between points that hardly

@@ -11,13 +11,13 @@ pub struct Grazing {
     pub touched: Vec<usize>,
 }
 
-/// The lines of sight from each piece's centre to its corners.
+/// The lines of sight from a piece's centre to its other corners.
 pub fn lines_of_sight(piece: &Piece) -> Vec<[usize; 2]> {
     let others = piece.corners.iter().filter(|&&i| i != piece.centre);
     others.map(|&i| [piece.centre, i]).collect()
 }
 
-/// For each piece those of them that touch a third corner. Only a sound drawing is looked at: a
+/// For each piece its lines of sight that touch a third corner. Only a sound drawing is looked at: a
 /// program may answer others.
 pub fn of_pieces(drawing: &[Corner], pieces: &[Piece]) -> Vec<Vec<Grazing>> {
     let sound = judge(drawing) == Judged::Sound;

@@ -187,7 +187,7 @@ impl Page {
         }
     }
 
-    /// What a line means that touches a third corner. It has a row of its own, where there is one.
+    /// What a line means that touches a third corner, in a row of its own.
     fn key_of_grazing(&mut self) {
         self.down += 22.0;
         let colour = &COLOURS[0];
