@@ -36,7 +36,8 @@ use Rattle.desk.proofs.Refuses.{refuses}
 -- the engine reads any cell; of one that tells sight the half is 0 or 1
 cell-centre : {v : ℕ} {P Q : Type 0} → Cell v P Q → (v / 2 % 2 ≡ 1) ↔ Q
 cell-centre {v} c =
-    let small = c .small in ((λ e. c .two .0 (omega (arith, e, small))), (λ q. let e = c .two .1 q in omega (arith, e)))
+    let small = c .small in
+    ((λ e. c .two .0 (omega (arith, e, small))), (λ q. let e = c .two .1 q in omega (arith, e)))
 
 module _ {first second : List ℤ} (pair : SoundPair first second) (first-cells second-cells before₁ before₂ : List ℕ)
     (seen₁ : Seen first before₁ first-cells) (seen₂ : Seen second before₂ second-cells) where

@@ -1,5 +1,5 @@
--- The lines of sight that begin with a side, as they are marked: of one corner the sides along whose line it lies, from
--- mark to mark, and all corners.
+-- The lines of sight that begin with a side, as they are marked: of one corner, from side to side along whose line it
+-- lies, and of all corners.
 use mathlib.Core.Path.{_≡_, refl, sym, ap, _∙_, subst}
 use mathlib.Core.Logic.{_⊎_, inl, inr, by-cases}
 use mathlib.Core.List.{List}
@@ -45,7 +45,8 @@ joined-line d p i k m (inl (e, f)) o =
 joined-line d p i k m (inr (e, f)) o =
     subst (λ x. Turn (corner d x) (corner d (after d k)) (corner d i) ≡ pos 0) (sym e)
     (subst (λ x. Turn (corner d m) (corner d x) (corner d i) ≡ pos 0) (sym f)
-    (ring1 (env4 (corner d p) (corner d m) (corner d i) (corner d i)) (TurnE B A C) O I (TurnE A C B) O (o .line) refl))
+    (ring1 (env4 (corner d p) (corner d m) (corner d i) (corner d i)) (TurnE B A C) O I (TurnE A C B) O (o .line)
+    refl))
 
 -- a side that joins p to m and ends at i makes p and i neighbours, or i is m
 module _ (d : List ℤ) {i p : ℕ} (b : Begins d p i) where

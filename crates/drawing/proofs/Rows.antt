@@ -60,7 +60,8 @@ module _ {d : List ℤ} (sound : Sound d) {i : ℕ} (hi : i < corners d) where
           let back = centre-mutual (subst (λ x. CentreSees d x q) (h .0) s) in
           inl (subst (λ x. Early d x q) (sym (h .0)) (early-back d q i (near q hq (h .1) (h .2) back)))
       start p q hp hq (inr (inr h)) s =
-          inl (subst (λ x. Early d p x) (sym (h .0)) (near p hp (h .1) (h .2) (subst (λ x. CentreSees d p x) (h .0) s)))
+          let here = subst (λ x. CentreSees d p x) (h .0) s in
+          inl (subst (λ x. Early d p x) (sym (h .0)) (near p hp (h .1) (h .2) here))
 
   -- the next mark is passed
   row-more : {rest j : ℕ} {A : ℕ → ℕ → Type 0} {c : List ℕ} → rest < 2 ^ 64 → ¬ (rest ≡ 0) → j ≡ i + mark rest →
@@ -115,7 +116,8 @@ row-decided {d} {i} {j} {rest} sound hi hj room fits n is (inr x) =
   where
     hidden : (p q : ℕ) → Pair i j p q → CentreSees d p q → RowDone d i rest p q
     hidden p q (inl y) s =
-        inl (inl (rw (y .0, y .1) (x .0 (subst (λ z. CentreSees d z j) (y .0) (subst (λ z. CentreSees d p z) (y .1) s)))))
+        let here = subst (λ z. CentreSees d z j) (y .0) (subst (λ z. CentreSees d p z) (y .1) s) in
+        inl (inl (rw (y .0, y .1) (x .0 here)))
     hidden p q (inr y) s =
         let back = subst (λ z. CentreSees d z i) (y .0) (subst (λ z. CentreSees d p z) (y .1) s) in
         inl (inl (rw (y .0, y .1) (early-back d i j (x .0 (centre-mutual back)))))

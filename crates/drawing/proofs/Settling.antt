@@ -47,7 +47,8 @@ module _ {d : List ℤ} {i j v : ℕ} (c : List ℕ) (sound : Sound d) (hi : i <
     size = pair-size c v few hi hj room;
   }
     where
-      code : (p q : ℕ) → p < corners d → q < corners d → Which c v few hi hj room p q → Code d p q (cell (both c i j v) p q)
+      code : (p q : ℕ) → p < corners d → q < corners d → Which c v few hi hj room p q →
+          Code d p q (cell (both c i j v) p q)
       code p q hp hq (pair x e) = subst (Code d p q) (sym e) (of-pair k x)
       code p q hp hq (same e) = subst (Code d p q) (sym e) (coded p q hp hq)
 
@@ -61,28 +62,28 @@ module _ {d : List ℤ} {i j v : ℕ} (c : List ℕ) (sound : Sound d) (hi : i <
 
 -- ---- a third corner k between i and j, by its two parts
 module _ {d : List ℤ} (sound : Sound d) {i j k : ℕ} (hi : i < corners d) (hj : j < corners d) (g : GrazedBy d i j k)
-    where
-  -- what the parts tell, as a code
-  code-byte : (r : Bool) → Tells r (CentreSees d i j) → Code d i j (2 * boolByte r)
-  code-byte true t = code-past sound hi hj g (t .sure tt) refl
-  code-byte false t = code-unseen sound hi hj (λ s. t .told s) refl
+  where
+    -- what the parts tell, as a code
+    code-byte : (r : Bool) → Tells r (CentreSees d i j) → Code d i j (2 * boolByte r)
+    code-byte true t = code-past sound hi hj g (t .sure tt) refl
+    code-byte false t = code-unseen sound hi hj (λ s. t .told s) refl
 
-  byte-small : (r : Bool) → 2 * boolByte r < 4
-  byte-small true = omega arith
-  byte-small false = omega arith
+    byte-small : (r : Bool) → 2 * boolByte r < 4
+    byte-small true = omega arith
+    byte-small false = omega arith
 
-  pub parts-settled : {a b : Bool} (c t u : List ℕ) → all-cells ≤ length c → PairSettled d i k c t a →
-      PairSettled d k j t u b → PairSettled d i j c (both u i j (2 * boolByte (a && b))) (a && b)
-  parts-settled {a} {b} c t u room f s =
-      let tells = parts-tell sound hi hj g (f .tells) (s .tells) in
-      let wide : all-cells ≤ length u = omega (arith, room, f .settling .size, s .settling .size) in
-      let code = code-byte (a && b) tells in
-      record {
-        settling = settling-on (settling-on (f .settling) (s .settling))
-            (settling-pair u sound hi hj wide code (byte-small (a && b)) (s .settling .coded));
-        here = settled-here u sound hi hj wide code (byte-small (a && b)) (s .settling .coded);
-        tells = tells;
-      }
+    pub parts-settled : {a b : Bool} (c t u : List ℕ) → all-cells ≤ length c → PairSettled d i k c t a →
+        PairSettled d k j t u b → PairSettled d i j c (both u i j (2 * boolByte (a && b))) (a && b)
+    parts-settled {a} {b} c t u room f s =
+        let tells = parts-tell sound hi hj g (f .tells) (s .tells) in
+        let wide : all-cells ≤ length u = omega (arith, room, f .settling .size, s .settling .size) in
+        let code = code-byte (a && b) tells in
+        record {
+          settling = settling-on (settling-on (f .settling) (s .settling))
+              (settling-pair u sound hi hj wide code (byte-small (a && b)) (s .settling .coded));
+          here = settled-here u sound hi hj wide code (byte-small (a && b)) (s .settling .coded);
+          tells = tells;
+        }
 
 -- the third corner that a cell names
 pub grazed-by : {d : List ℤ} {i j : ℕ} (c : List ℕ) → i < corners d → j < corners d → Coded d c → 4 ≤ cell c i j →

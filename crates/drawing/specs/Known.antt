@@ -12,6 +12,7 @@ use Rattle.whole.specs.Bits.{bit}
 use Rattle.whole.specs.Masks.{Marks}
 use Rattle.outline.specs.Drawing.{corner, corners, after, prev, Turn, EndsAt, Angle, Shared}
 use Rattle.outline.specs.Segments.{Apart}
+use Rattle.outline.specs.Placed.{On}
 use Rattle.drawing.specs.Meeting.{Meets}
 use Rattle.drawing.specs.declared.faced.Bends.{Bends}
 use Rattle.drawing.specs.declared.masks.Known.{Known}
@@ -68,6 +69,10 @@ module _ (d : List ℤ) where
   -- how ij meets side k
   abbrev pub MeetsSide : ℕ → ℕ → ℕ → Met → Type 0
   MeetsSide i j k w = Meets (corner d i) (corner d j) (corner d k) (corner d (after d k)) w
+
+  -- corner k lies on the segment ij
+  abbrev pub LiesOn : ℕ → ℕ → ℕ → Type 0
+  LiesOn k i j = On (corner d k) (corner d i) (corner d j)
 
   -- an open side that ij touches
   pub record TouchedSide (i j k : ℕ) : Type 0 where

@@ -87,8 +87,8 @@ module _ (d : List ℤ) (simple : Simple d) where
 
   -- ---- the sides at i and j pass because of the angles, those that are not open by the law above, the others by the
   -- look
-  passes-by : (i j k : ℕ) → i < corners d → j < corners d → k < corners d → ¬ Beside d i j → Angle d i j → Angle d j i →
-      (Open d i j k → ¬ Hides d i j k) → Passes d i j k
+  passes-by : (i j k : ℕ) → i < corners d → j < corners d → k < corners d → ¬ Beside d i j → Angle d i j →
+      Angle d j i → (Open d i j k → ¬ Hides d i j k) → Passes d i j k
   passes-by i j k hi hj l apart f g look =
       by-cases (ℕ-discrete k i)
       (λ e. begins-at-i apart e .0 (subst Ends (ap (after d) (sym e)) (only-sound (at-i .1))))

@@ -11,13 +11,13 @@ use Prim.Native.Nat.{ℕ, _+_, _≤_, _<_}
 use lib.IntN.{ℤ}
 use lib.ListN.{getD, length, set}
 use Rattle.limits.specs.Limits.{place}
-use Rattle.outline.specs.Drawing.{corner, corners, after, Beside, Sees}
+use Rattle.outline.specs.Drawing.{corners, after, Beside, Sees}
 use Rattle.outline.specs.InOrOn.{CentreSees}
 use Rattle.outline.specs.Tells.{Tells}
-use Rattle.outline.specs.Placed.{On}
 use Rattle.outline.specs.Way.{GrazedBy}
 use Rattle.outline.specs.Begins.{Begins}
 use Rattle.drawing.specs.Sight.{Cell}
+use Rattle.drawing.specs.Known.{LiesOn}
 
 -- ---- what stands in a cell
 abbrev pub cell : List ℕ → ℕ → ℕ → ℕ
@@ -71,8 +71,8 @@ Begun d i p q = Beside d p q ⊎ (((q < i) × Begins d p q) ⊎ ((p < i) × Begi
 -- of corner i on the line of side k: the end that lies between i and the other
 abbrev pub SideBegun : List ℤ → ℕ → ℕ → List ℕ → List ℕ → Type 0
 SideBegun d i k before now =
-    (On (corner d k) (corner d i) (corner d (after d k)) × (now ≡ both before i (after d k) (4 + k))) ⊎
-    ((¬ On (corner d k) (corner d i) (corner d (after d k))) × (now ≡ both before i k (4 + after d k)))
+    (LiesOn d k i (after d k) × (now ≡ both before i (after d k) (4 + k))) ⊎
+    ((¬ LiesOn d k i (after d k)) × (now ≡ both before i k (4 + after d k)))
 
 abbrev pub RowBegun : List ℤ → ℕ → List ℕ → List ℕ → Type 0
 RowBegun d i before now = Grows d (Begun d i) (Begun d (i + 1)) before now
@@ -121,7 +121,7 @@ pub record PairSettled (d : List ℤ) (i j : ℕ) (before after : List ℕ) (r :
   pub here : Settled after i j
   pub tells : Tells r (CentreSees d i j)
 
--- the pairs of corner i with those before t
+-- the pairs of corner i with the corners before t
 pub record RowSettled (d : List ℤ) (i t : ℕ) (before after : List ℕ) : Type 0 where
   pub settling : Settling d before after
   pub row : (q : ℕ) → q < t → Settled after i q
@@ -130,3 +130,10 @@ pub record RowSettled (d : List ℤ) (i t : ℕ) (before after : List ℕ) : Typ
 pub record RowsSettled (d : List ℤ) (t : ℕ) (before after : List ℕ) : Type 0 where
   pub settling : Settling d before after
   pub rows : (p q : ℕ) → p < t → q < corners d → Settled after p q
+
+-- a whole row, and all rows
+abbrev pub SettlesRow : List ℤ → ℕ → List ℕ → List ℕ → Type 0
+SettlesRow d i before now = RowSettled d i (corners d) before now
+
+abbrev pub Settles : List ℤ → List ℕ → List ℕ → Type 0
+Settles d before now = RowsSettled d (corners d) before now

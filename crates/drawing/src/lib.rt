@@ -46,9 +46,9 @@ pub fn judge(xy: &[i32]) -> Judged
     Judged::Sound
 }
 
-// The judgement of `xy`, and where it is sound who sees whom: cell i * 64 + j is 1 where corner i sees corner j by 01's
-// rule, and 2 more where it sees it as a centre (02, K3). Every other cell keeps its value. Of a drawing that is not
-// sound nothing is told, nor where `cells` has no room for 64 rows.
+// The judgement of `xy`, and where it is sound who sees whom: cell i * 64 + j has a 1 where corner i sees corner j by
+// 01's rule, and 2 more where it sees it as a centre (02, K3). Every other cell keeps its value. Of a drawing that is
+// not sound nothing is told, nor where `cells` has no room for 64 rows.
 pub fn sight(xy: &[i32], cells: &mut [u8]) -> Judged
     ensures { λ r. ⌜ Sight (now (xy .entry)) (now (cells .entry)) (now (cells .exit)) r ⌝ }
 {

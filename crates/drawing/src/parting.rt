@@ -7,7 +7,7 @@ ghost use lib.ListN.{length};
 ghost use Rattle.limits.specs.Limits.{all-cells};
 ghost use Rattle.outline.specs.Drawing.{corners, Sound};
 ghost use Rattle.drawing.specs.Parts.{Limits};
-ghost use Rattle.drawing.specs.Table.{Coded, PairSettled, RowSettled, RowsSettled};
+ghost use Rattle.drawing.specs.Table.{Coded, PairSettled, SettlesRow, Settles};
 use crate::seeing::GRAZED;
 use crate::seeing::SEEN_BY_CENTRES;
 use crate::table::put;
@@ -15,7 +15,7 @@ use limits::ROW;
 
 pub fn settle(xy: &[i32], cells: &mut [u8])
     requires { ⌜ Limits (now xy) × Sound (now xy) × (all-cells ≤ length (now cells)) × Coded (now xy) (now cells) ⌝ }
-    ensures { λ _. ⌜ RowsSettled (now (xy .entry)) (corners (now (xy .entry))) (now (cells .entry)) (now (cells .exit)) ⌝ }
+    ensures { λ _. ⌜ Settles (now (xy .entry)) (now (cells .entry)) (now (cells .exit)) ⌝ }
 {
     for i in 0..xy.len() / 2 {
         settle_row(xy, cells, i);
@@ -25,7 +25,7 @@ pub fn settle(xy: &[i32], cells: &mut [u8])
 fn settle_row(xy: &[i32], cells: &mut [u8], i: usize)
     requires { ⌜ Limits (now xy) × Sound (now xy) × (all-cells ≤ length (now cells)) × Coded (now xy) (now cells) ⌝ }
     requires { ⌜ i < corners (now xy) ⌝ }
-    ensures { λ _. ⌜ RowSettled (now (xy .entry)) i (corners (now (xy .entry))) (now (cells .entry)) (now (cells .exit)) ⌝ }
+    ensures { λ _. ⌜ SettlesRow (now (xy .entry)) i (now (cells .entry)) (now (cells .exit)) ⌝ }
 {
     for j in 0..xy.len() / 2 {
         if cells[i * ROW + j] >= GRAZED {

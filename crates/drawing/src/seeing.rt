@@ -3,14 +3,12 @@
 //     i --------- j     nothing between: both kinds
 //     i ----k---- j     a third corner: 01's sight is barred, and a centre's is that of the two parts
 //     i ----|---- j     a side across: neither
-ghost use mathlib.Core.Path.{_≡_};
 ghost use Prim.Native.Nat.{_<_};
 ghost use Rattle.whole.specs.Masks.{Marks};
-ghost use Rattle.outline.specs.Drawing.{corner, corners, Sound, Angle};
-ghost use Rattle.outline.specs.Placed.{On};
+ghost use Rattle.outline.specs.Drawing.{corners, Sound, Angle};
 ghost use Rattle.outline.specs.Tells.{Tells};
 ghost use Rattle.outline.specs.Way.{GrazedBy};
-ghost use Rattle.drawing.specs.Known.{Left, Open, Looks, Reaches, MeetsSide, TouchedSide, Needs, Knows};
+ghost use Rattle.drawing.specs.Known.{Left, Open, Looks, Reaches, MeetsSide, TouchedSide, LiesOn, Needs, Knows};
 ghost use Rattle.drawing.specs.Parts.{Limits};
 ghost use Rattle.drawing.specs.Table.{Looked, Code};
 use crate::corners::corner;
@@ -25,7 +23,9 @@ use crate::segment::turn;
 // What a cell holds while sight is told: 0 for a pair of which nothing is known yet or neither sees the other, 2 for a
 // centre's sight alone, 3 for both kinds, and GRAZED + k where corner k lies between the two.
 pub const SEEN_BY_CENTRES: u8 = 2;
+
 pub const SEEN: u8 = 3;
+
 pub const GRAZED: u8 = 4;
 
 // Corner i is inside the angle at j. The cheapest test comes first: the other angle, and only then the sides. Inside
@@ -133,8 +133,7 @@ fn touched(xy: &[i32], i: usize, j: usize, k: usize) -> usize
 // Corner k lies on the segment ij.
 pub fn lies_on(xy: &[i32], k: usize, i: usize, j: usize) -> bool
     requires { ⌜ Limits (now xy) × (i < corners (now xy)) × (j < corners (now xy)) × (k < corners (now xy)) ⌝ }
-    requires { ⌜ ¬ (corner (now xy) i ≡ corner (now xy) j) ⌝ }
-    ensures { λ r. ⌜ Tells r (On (corner (now (xy .entry)) k) (corner (now (xy .entry)) i) (corner (now (xy .entry)) j)) ⌝ }
+    ensures { λ r. ⌜ Tells r (LiesOn (now (xy .entry)) k i j) ⌝ }
 {
     let a = corner(xy, i);
     let b = corner(xy, j);

@@ -1,6 +1,6 @@
-// The cells of sight. What each corner knows of the sides comes first. Then cells are told by looks: neighbours, lines
-// of sight that begin with a side, and the pairs i < j in which i is inside the angle at j. Each fills two cells, since
-// sight is mutual. Where a third corner lies between, its number stands in the cell until the two parts settle it.
+// The cells of sight. What each corner knows of the sides comes first. Then the pairs are told: neighbours; lines of
+// sight that begin with a side; and by a look those i < j in which i is inside the angle at j. Each fills two cells,
+// since sight is mutual. Where a third corner lies between, its number stands in the cell until the parts settle it.
 ghost use mathlib.Core.Path.{_≡_};
 ghost use Prim.Native.Nat.{_<_, _≤_};
 ghost use lib.ListN.{length};
@@ -10,10 +10,10 @@ ghost use Rattle.drawing.specs.Sight.{Seen};
 ghost use Rattle.drawing.specs.Parts.{Limits};
 ghost use Rattle.drawing.specs.Table.{None, Marked, RowBlank, NeighboursAdded, RowsAdded, Decided, both};
 ghost use Rattle.drawing.specs.Known.{Knows, AllKnown};
+use crate::beginnings::beginnings;
 use crate::corners::next;
 use crate::faced::angles;
 use crate::faced::faced;
-use crate::beginnings::beginnings;
 use crate::masks::Known;
 use crate::masks::learn;
 use crate::parting::settle;

@@ -67,7 +67,8 @@ pub first-passes : (first second : List ℤ) (k : ℕ) → Checks first second k
     (Alike first second × Sound first) ⊎ (¬ (Alike first second × Sound first))
 first-passes first second k h = go (h .numbered)
   where
-    go : FirstFailed (lines first second) k → (Alike first second × Sound first) ⊎ (¬ (Alike first second × Sound first))
+    go : FirstFailed (lines first second) k →
+        (Alike first second × Sound first) ⊎ (¬ (Alike first second × Sound first))
     go (inl f) = inr (λ p. f .0 (p .0))
     go (inr (a, inl f)) = inr (λ p. f .0 (p .1 .in-range))
     go (inr (a, inr (r, inl f))) = inr (λ p. f .0 (p .1 .simple))

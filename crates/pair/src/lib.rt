@@ -1,5 +1,5 @@
-// The checks of a pair of drawings: lines 1 and 3 to 8 of 01's table ("What comes back"), in one call, with the sight of
-// both. What else is asked of a pair, and where in the order, is the caller's.
+// The checks of a pair of drawings: lines 1 and 3 to 8 of 01's table ("What comes back"), in one call, which tells the
+// sight of both on the way. What else is asked of a pair, and where in the order, is the caller's.
 ghost use mathlib.Core.Path.{_≡_};
 ghost use Prim.Native.Nat.{_≤_};
 ghost use Rattle.drawing.specs.Judgement.{number-from};
@@ -57,8 +57,8 @@ pub fn number(which: Which, judged: drawing::Judged) -> u8
 }
 
 // The number of the first of these lines that applies; 0 where both drawings are sound and have equally many corners.
-// Each drawing is judged once, and where it is sound its sight is told on the way: that of the first drawing where line
-// 1 does not apply, that of the second with number 0. Cells of which nothing is told keep their values.
+// Each drawing is judged once, and the sight of a sound one is told on the way: that of the first where line 1 does
+// not apply, that of the second with number 0. Where nothing is told the cells keep their values.
 pub fn sight(first: &[i32], second: &[i32], cells1: &mut [u8], cells2: &mut [u8]) -> u8
     ensures { λ r. ⌜ Checks (now (first .entry)) (now (second .entry)) r ⌝ }
     ensures { λ _. ⌜

@@ -33,8 +33,7 @@ same-length c = search needs
 returns-2 : tie.Need-returns-2
 returns-2 c =
     let sight = c .before .before .before .before in
-    let a = alike (sight .before .before) in
-    (
+    let a = alike (sight .before .before) in (
       first-decides a (sight .sight .result) (sight .sight .ensures .judged) _ (c .before .number .ensures)
           (c .if2 .taken),
       (first-told a (sight .sight .ensures), second-untold (c .if2 .taken)),
@@ -57,8 +56,7 @@ returns-3 c =
     let second = c .before .before .before in
     let passed = second .before .before in
     let first = passed .before .before .before .before in
-    let a = alike (first .before .before) in
-    (
+    let a = alike (first .before .before) in (
       second-decides a (first .sight .result) (first .sight .ensures .judged) _ _ (passed .before .number .ensures)
           (passed .if2 .left) (second .sight2 .result) (second .sight2 .ensures .judged) (c .number2 .ensures),
       (first-told a (first .sight .ensures), second-told (c .number2 .ensures) (second .sight2 .ensures)),

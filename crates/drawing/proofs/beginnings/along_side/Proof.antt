@@ -1,15 +1,14 @@
 -- `drawing::beginnings::along_side` meets its contract.
-use mathlib.Core.Path.{_≡_, sym, ap, subst, _∙_}
+use mathlib.Core.Path.{_≡_, sym, subst}
 use mathlib.Core.Logic.{inl, inr}
 use mathlib.Core.List.{List}
 use Prim.Native.Nat.{ℕ, _+_}
 use lib.IntN.{ℤ}
 use borrow.Author.Needs.{needs}
-use Rattle.outline.specs.Drawing.{corner, after}
-use Rattle.outline.specs.Placed.{On}
+use Rattle.outline.specs.Drawing.{after}
+use Rattle.drawing.specs.Known.{LiesOn}
 use Rattle.drawing.specs.Table.{SideBegun, both}
 use Rattle.outline.specs.Tells.{if-yes, if-no}
-use Rattle.drawing.specs.Grazing.{i≠m}
 use Rattle.drawing.proofs.beginnings.along_side.Statement.{statement}
 use Rattle.drawing.proofs.beginnings.along_side.Tie as tie
 
@@ -18,10 +17,7 @@ next-requires c κs = search needs
 
 lies-on-requires : tie.Need-lies-on-requires
 lies-on-requires c κs =
-    let s = c .before .before in
-    let h = s .pre in
-    let apart = i≠m (s .args .xy .now) (h .0 .1 .simple) (s .args .i) (s .args .k) (h .0 .2) (h .1 .0) (h .1 .1) in
-    ((h .0 .0, h .0 .2, c .next .ensures .below, h .1 .0), λ e. apart (e ∙ ap (corner (s .args .xy .now)) (c .next .ensures .is)))
+    let h = c .before .before .pre in (h .0 .0, h .0 .2, c .next .ensures .below, h .1 .0)
 
 cast-put : tie.Need-cast-put
 cast-put c = search needs
@@ -46,14 +42,13 @@ same-length c = search needs
 
 -- the side's other end by its number
 module _ (d : List ℤ) (i k m : ℕ) (is : m ≡ after d k) (before now : List ℕ) where
-  first-end : On (corner d k) (corner d i) (corner d m) → now ≡ both before i m (4 + k) → SideBegun d i k before now
+  first-end : LiesOn d k i m → now ≡ both before i m (4 + k) → SideBegun d i k before now
   first-end o e =
-      inl (subst (λ x. On (corner d k) (corner d i) (corner d x)) is o, subst (λ x. now ≡ both before i x (4 + k)) is e)
+      inl (subst (λ x. LiesOn d k i x) is o, subst (λ x. now ≡ both before i x (4 + k)) is e)
 
-  other-end : ¬ On (corner d k) (corner d i) (corner d m) → now ≡ both before i k (4 + m) → SideBegun d i k before now
+  other-end : ¬ LiesOn d k i m → now ≡ both before i k (4 + m) → SideBegun d i k before now
   other-end n e =
-      inr ((λ o. n (subst (λ x. On (corner d k) (corner d i) (corner d x)) (sym is) o)),
-      subst (λ x. now ≡ both before i k (4 + x)) is e)
+      inr ((λ o. n (subst (λ x. LiesOn d k i x) (sym is) o)), subst (λ x. now ≡ both before i k (4 + x)) is e)
 
 returns : tie.Need-returns
 returns c =

@@ -100,8 +100,7 @@ centre-sees-centre-sees-requires-2 t c κs =
     let h = s .pre .1 in
     let g = grazed-by (s .args .cells .now) (h .1 .0) (h .1 .1) (h .0 .3) (k .if1 .left) in
     let less = second-shorter (s .args .xy .now) (h .0 .1 .simple) (s .args .i) (s .args .j) _ (h .1 .0) (h .1 .1) g in
-    let first = c .before .before .before .centre-sees .ensures .settling in
-    (
+    let first = c .before .before .before .centre-sees .ensures .settling in (
       rw (s .pre .0) at less,
       ((h .0 .0, h .0 .1, omega (arith, h .0 .2, first .size), first .coded), (g .below, h .1 .1)),
     )

@@ -38,7 +38,6 @@ dot-requires c κs = search needs
 returns : tie.Need-returns
 returns c =
     let k = c .before .before in
-    let s = k .before .before .before .before in
     let flat = same-bits (held (k .turn .ok) (line k)) refl (c .before .if1 .taken) in
     let e = c .dot .ensures ∙
     dot-same (k .before .corner3 .ensures .is) (k .before .before .before .corner .ensures .is)

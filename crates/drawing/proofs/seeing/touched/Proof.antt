@@ -8,7 +8,7 @@ use Rattle.drawing.proofs.seeing.touched.Statement.{statement}
 use Rattle.drawing.proofs.seeing.touched.Tie as tie
 
 lies-on-requires : tie.Need-lies-on-requires
-lies-on-requires c κs = let h = c .pre in ((h .0 .0, h .0 .2, h .0 .3, h .1 .0), h .1 .1 .differ)
+lies-on-requires c κs = let h = c .pre in (h .0 .0, h .0 .2, h .0 .3, h .1 .0)
 
 returns : tie.Need-returns
 returns c =
