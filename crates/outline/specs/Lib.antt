@@ -31,8 +31,8 @@ pub mod Extent
 pub mod Round
 pub mod Sides
 pub mod Seeing
--- no corner stands on the line between two that see each other; no such line has a part of another
 pub mod OnSegment
+-- no corner stands on a line of strict sight; no line without one has a part of another
 pub mod Unbroken
 pub mod TwoPoints
 pub mod OneLine
@@ -130,3 +130,16 @@ pub mod TwoKinds
 -- what the angle leaves of a centre's sight: a line that begins with a side; a third corner parts it
 pub mod Begins
 pub mod Third
+-- ---- lines across lines
+-- a point of a segment, and what its parts share with another
+pub mod Squeezed
+pub mod Straight
+-- the corners on one side of a line of strict sight are an outline of their own; those on the other side are outside it
+pub mod Past
+pub mod Parted
+pub mod Chord
+pub mod Outlook
+pub mod Leaving
+-- so two lines whose corners take turns round the drawing meet: both of strict sight, or one of them a centre's
+pub mod Interleaved
+pub mod Across
