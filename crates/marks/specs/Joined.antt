@@ -3,29 +3,31 @@
 use mathlib.Core.Path.{_≡_, refl, sym, ap, _∙_, subst}
 use mathlib.Core.Bool.{Bool, true, false, cond, _||_, true≢false}
 use mathlib.Core.Logic.{_⊎_, inl, inr}
-use mathlib.Core.List.{List, [], _∷_, _++_}
+use mathlib.Core.List.{List, [], _∷_}
 use Prim.Native.Nat.{ℕ, _+_, _≤_, _<_}
 use native.Mathlib.Omega.{arith}
 use lib.Dec.{eqb}
 use lib.ListN.{length, getD, drop}
 use lib.Seq.{drop-at}
 use borrow.Author.Tests.{eq-eqb}
-use Rattle.rules.specs.Lists.{In, in-split, Rising}
+use Rattle.rules.specs.Lists.{In, in-left, in-right, in-split, Rising}
 use Rattle.rules.specs.Cutting.{Pairs, Joined, Inside, Outside, Region}
 use Rattle.rules.specs.Centre.{Layout}
 use Rattle.marks.specs.Wedges.{Wedge, wedge, with-wedge, following, fan, piece-wedges, wedges}
 
 -- ---- a wedge of an answer is one of some piece, with the centre that the answer has for it
-pub record InPiece (centre : ℕ → List ℕ → Type 0) (l : List (List ℕ)) (W : Wedge) : Type 0 where
+pub record InPiece (centre : ℕ → List ℕ → Type 0) (l : List (List ℕ)) (ws : List Wedge) (W : Wedge) : Type 0 where
   pub S : List ℕ
   pub c : ℕ
   pub told : In S l
   pub is-centre : centre c S
   pub among : In W (piece-wedges c S)
+  -- with all the piece's wedges
+  pub with-all : (U : Wedge) → In U (piece-wedges c S) → In U ws
 
 module _ (centre : ℕ → List ℕ → Type 0) where
   pub of-piece : (l : List (List ℕ)) (bytes : List ℕ) → Layout centre l bytes → (W : Wedge) → In W (wedges l bytes) →
-      InPiece centre l W
+      InPiece centre l (wedges l bytes) W
   of-piece [] bytes h W i = absurd i
   of-piece (S ∷ l) bytes h W i =
       go (of-piece l (h .1) (h .4) W)
@@ -37,21 +39,38 @@ module _ (centre : ℕ → List ℕ → Type 0) where
       rest-is : drop (2 + length S) bytes ≡ h .1
       rest-is = ap (drop (2 + length S)) (h .3) ∙ drop-at (length S ∷ h .0 ∷ S) (h .1) (2 + length S) (omega arith)
 
-      later : InPiece centre l W → InPiece centre (S ∷ l) W
-      later p = record { S = p .S; c = p .c; told = inr (p .told); is-centre = p .is-centre; among = p .among }
+      -- the wedges of this piece, and of those after it
+      here : (U : Wedge) → In U (piece-wedges (h .0) S) → In U (wedges (S ∷ l) bytes)
+      here U k =
+          in-left U (piece-wedges (getD bytes 1 0) S) (wedges l (drop (2 + length S) bytes))
+          (subst (λ x. In U (piece-wedges x S)) (sym c-is) k)
 
-      go : (In W (wedges l (h .1)) → InPiece centre l W) →
+      there : (U : Wedge) → In U (wedges l (h .1)) → In U (wedges (S ∷ l) bytes)
+      there U k =
+          in-right U (piece-wedges (getD bytes 1 0) S) (wedges l (drop (2 + length S) bytes))
+          (subst (λ b. In U (wedges l b)) (sym rest-is) k)
+
+      later : InPiece centre l (wedges l (h .1)) W → InPiece centre (S ∷ l) (wedges (S ∷ l) bytes) W
+      later p = record {
+        S = p .S;
+        c = p .c;
+        told = inr (p .told);
+        is-centre = p .is-centre;
+        among = p .among;
+        with-all = λ U k. there U (p .with-all U k);
+      }
+
+      go : (In W (wedges l (h .1)) → InPiece centre l (wedges l (h .1)) W) →
           In W (piece-wedges (getD bytes 1 0) S) ⊎ In W (wedges l (drop (2 + length S) bytes)) →
-          InPiece centre (S ∷ l) W
-      go f (inl k) =
-          record {
-            S = S;
-            c = h .0;
-            told = inl refl;
-            is-centre = h .2;
-            among = subst (λ x. In W (piece-wedges x S))
-                c-is k;
-          }
+          InPiece centre (S ∷ l) (wedges (S ∷ l) bytes) W
+      go f (inl k) = record {
+        S = S;
+        c = h .0;
+        told = inl refl;
+        is-centre = h .2;
+        among = subst (λ x. In W (piece-wedges x S)) c-is k;
+        with-all = here;
+      }
       go f (inr k) = later (f (subst (λ b. In W (wedges l b)) rest-is k))
 
 -- ---- the corners of a wedge follow each other round the piece
@@ -135,13 +154,13 @@ fan-follows c f (a ∷ s) W i = go (fan-follows c f s W) (named c a (following f
         }
 
 -- ---- two corners that follow each other in a rising list: none lies between them
-record Neighbours (S : List ℕ) (a b : ℕ) : Type 0 where
-  in-a : In a S
-  in-b : In b S
-  rises : a < b
-  none : Inside S a b
+pub record Neighbours (S : List ℕ) (a b : ℕ) : Type 0 where
+  pub in-a : In a S
+  pub in-b : In b S
+  pub rises : a < b
+  pub none : Inside S a b
 
-next-neighbours : (S : List ℕ) → Rising S → (a b : ℕ) → Next S a b → Neighbours S a b
+pub next-neighbours : (S : List ℕ) → Rising S → (a b : ℕ) → Next S a b → Neighbours S a b
 next-neighbours [] r a b n = absurd n
 next-neighbours (x ∷ []) r a b (inl n) = absurd (n .1)
 next-neighbours (x ∷ []) r a b (inr n) = absurd n
@@ -167,7 +186,7 @@ next-neighbours (x ∷ y ∷ s) r a b (inr n) = go (next-neighbours (y ∷ s) (r
         none z (inr i) l m = h .none z i l m
 
 -- and the last with the first: none lies outside them
-ends-in : (S : List ℕ) (a : ℕ) → Ends S a → In a S
+pub ends-in : (S : List ℕ) (a : ℕ) → Ends S a → In a S
 ends-in [] a e = absurd e
 ends-in (x ∷ []) a e = inl e
 ends-in (x ∷ y ∷ s) a e = inr (ends-in (y ∷ s) a e)
@@ -179,11 +198,11 @@ ends-most (x ∷ []) r a e z (inr i) = absurd i
 ends-most (x ∷ y ∷ s) r a e z (inl q) = omega (arith, q, r .0 a (ends-in (y ∷ s) a e))
 ends-most (x ∷ y ∷ s) r a e z (inr i) = ends-most (y ∷ s) (r .1) a e z i
 
-ends-outside : (f : ℕ) (s : List ℕ) → Rising (f ∷ s) → (a : ℕ) → Ends (f ∷ s) a → Outside (f ∷ s) f a
+pub ends-outside : (f : ℕ) (s : List ℕ) → Rising (f ∷ s) → (a : ℕ) → Ends (f ∷ s) a → Outside (f ∷ s) f a
 ends-outside f s r a e z (inl q) = (omega (arith, q), ends-most (f ∷ s) r a e z (inl q))
 ends-outside f s r a e z (inr i) = (omega (arith, r .0 z i), ends-most (f ∷ s) r a e z (inr i))
 
-ends-apart : (f : ℕ) (s : List ℕ) → Rising (f ∷ s) → 3 ≤ length (f ∷ s) → (a : ℕ) → Ends (f ∷ s) a → f < a
+pub ends-apart : (f : ℕ) (s : List ℕ) → Rising (f ∷ s) → 3 ≤ length (f ∷ s) → (a : ℕ) → Ends (f ∷ s) a → f < a
 ends-apart f [] r three a e = absurd (omega arith)
 ends-apart f (y ∷ s) r three a e = r .0 a (ends-in (y ∷ s) a e)
 

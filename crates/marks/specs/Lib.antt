@@ -12,13 +12,19 @@ pub mod Flat
 -- ---- no second result fits the statement
 pub mod Unique
 -- ---- theorems about marks and wedges
--- a mark on the line between two wedges has the same place from either
+-- a mark on the line between two wedges has the same place from either, where no wedge is flat
 pub mod Between
+pub mod NoFlat
+pub mod Lines
 -- a mark on a corner lands on that corner
 pub mod OnCorner
--- the wedges of an answer consist of corners that see each other, and no corner stands on a line of one
+-- the wedges of an answer: who sees whom, when they have an area, and which of their lines touch no corner
 pub mod Joined
+pub mod Follow
 pub mod Seen
+-- where no wedge of a piece is flat, no corner stands on a line from its centre
+pub mod Star
+pub mod Spokes
 -- ---- laws
 -- in or on three corners: by three crossings, by three weights, by areas that add up
 pub mod Lies

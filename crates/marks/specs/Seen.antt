@@ -1,15 +1,19 @@
--- The wedges of an answer consist of corners that see each other in both drawings. So each of them has an area, no
--- corner stands on a line of one, and two of them never have only a part of a line in common.
+-- The wedges of an answer: three corners that differ, of which the centre sees the two others in both drawings, by a
+-- centre's sight, and these see each other by 01's strict sight, since a side or a cut joins them.
+--
+--                 to
+--               /    \         A spoke, from the centre to another corner, may touch corners on its way (02, K3). The
+--      spoke  /       | line   line from..to touches none. Where the spokes are lines of strict sight too, the wedge
+--           /        /         has an area.
+--      centre --- from
 use mathlib.Core.Path.{_≡_, refl, sym, _∙_, subst}
-use mathlib.Core.Logic.{_⊎_, inl, inr}
+use mathlib.Core.Logic.{inl, inr}
 use mathlib.Core.List.{List, [], _∷_}
 use Prim.Native.Nat.{ℕ, zero, suc, _<_}
 use native.Mathlib.Omega.{arith}
 use lib.IntN.{ℤ, pos, negsuc, natAbs}
 use Rattle.outline.specs.Drawing.{corner, corners, Turn, Sees}
-use Rattle.outline.specs.InOrOn.{Spot, spot, OnSegment}
-use Rattle.outline.specs.TwoPoints.{Differ}
-use Rattle.outline.specs.OneLine.{SightLine, one-line}
+use Rattle.outline.specs.InOrOn.{spot, OnSegment}
 use Rattle.outline.specs.Round.{next-inner, next-last}
 use Rattle.outline.specs.Seeing.{sees-mutual}
 use Rattle.outline.specs.Unbroken.{none-between, seen-area}
@@ -22,8 +26,12 @@ use Rattle.desk.specs.Answer.{InBoth, plan, ValidCutting}
 use Rattle.marks.specs.Wedges.{Wedge, piece-wedges}
 use Rattle.marks.specs.Lands.{wedge-area}
 use Rattle.marks.specs.Carry.{wedges-given}
-use Rattle.marks.specs.Between.{Of}
+use Rattle.marks.specs.NoFlat.{NoFlatWedge}
 use Rattle.marks.specs.Joined.{of-piece, fan-follows, Either, joined, both-in}
+
+-- 01's strict sight in both drawings: a cut asks it, and the ends of a side have it
+abbrev pub StrictInBoth : List ℤ → List ℤ → ℕ → ℕ → Type 0
+StrictInBoth first second a b = Sees first a b × Sees second a b
 
 -- ---- its corners are corners of the drawings, differ, and see each other
 pub record SeenWedge (first second : List ℤ) (W : Wedge) : Type 0 where
@@ -34,11 +42,8 @@ pub record SeenWedge (first second : List ℤ) (W : Wedge) : Type 0 where
   pub from-to : ¬ (W .from ≡ W .to)
   pub to-centre : ¬ (W .to ≡ W .centre)
   pub sees-from : InBoth first second (W .centre) (W .from)
-  pub sees-along : InBoth first second (W .from) (W .to)
-  pub sees-to : InBoth first second (W .to) (W .centre)
-
-each-other : (first second : List ℤ) (a b : ℕ) → InBoth first second a b → InBoth first second b a
-each-other first second a b h = (sees-mutual (h .0), sees-mutual (h .1))
+  pub sees-to : InBoth first second (W .centre) (W .to)
+  pub strict-along : StrictInBoth first second (W .from) (W .to)
 
 -- a side joins neighbours
 beside : (d : List ℤ) (a b : ℕ) → b < corners d → Side (corners d) a b → Sees d a b
@@ -53,15 +58,16 @@ module _ (first second : List ℤ) (pair : SoundPair first second) (C : Pairs)
   many : corners second ≡ n
   many = equally-many (pair .alike)
 
-  joined-sees : (a b : ℕ) → b < n → Joined n C a b → InBoth first second a b
+  pub joined-sees : (a b : ℕ) → b < n → Joined n C a b → StrictInBoth first second a b
   joined-sees a b h (inl s) =
       (beside first a b h s, beside second a b (omega (arith, h, many)) (subst (λ k. Side k a b) (sym many) s))
   joined-sees a b h (inr t) = valid .cuts a b t .0
 
-  either-sees : (a b : ℕ) → a < n → b < n → Either n C a b → (¬ (a ≡ b)) × InBoth first second a b
+  either-sees : (a b : ℕ) → a < n → b < n → Either n C a b → (¬ (a ≡ b)) × StrictInBoth first second a b
   either-sees a b ha hb (inl h) = ((λ e. omega (arith, e, h .0)), joined-sees a b hb (h .1))
   either-sees a b ha hb (inr h) =
-      ((λ e. omega (arith, e, h .0)), each-other first second b a (joined-sees b a ha (h .1)))
+      let s = joined-sees b a ha (h .1) in
+      ((λ e. omega (arith, e, h .0)), (sees-mutual (s .0), sees-mutual (s .1)))
 
   piece-seen : (c : ℕ) (S : List ℕ) → Region n C S → In c S → ((y : ℕ) → In y S → InBoth first second c y) →
       (W : Wedge) →
@@ -73,8 +79,6 @@ module _ (first second : List ℤ) (pair : SoundPair first second) (C : Pairs)
       let ha = R .small (W .from) (in-s .0) in
       let hb = R .small (W .to) (in-s .1) in
       let e = either-sees (W .from) (W .to) ha hb (joined n C f s R (W .from) (W .to) (w .follow)) in
-      let sa = subst (λ x. InBoth first second x (W .from)) (sym (w .centre-is)) (sees (W .from) (in-s .0)) in
-      let sb = subst (λ x. InBoth first second x (W .to)) (sym (w .centre-is)) (sees (W .to) (in-s .1)) in
       record {
         centre-below = subst (λ x. x < n) (sym (w .centre-is)) (R .small c i);
         from-below = ha;
@@ -82,9 +86,9 @@ module _ (first second : List ℤ) (pair : SoundPair first second) (C : Pairs)
         centre-from = λ q. w .from-other (sym q ∙ w .centre-is);
         from-to = e .0;
         to-centre = λ q. w .to-other (q ∙ w .centre-is);
-        sees-from = sa;
-        sees-along = e .1;
-        sees-to = each-other first second (W .centre) (W .to) sb;
+        sees-from = subst (λ x. InBoth first second x (W .from)) (sym (w .centre-is)) (sees (W .from) (in-s .0));
+        sees-to = subst (λ x. InBoth first second x (W .to)) (sym (w .centre-is)) (sees (W .to) (in-s .1));
+        strict-along = e .1;
       }
 
 -- ---- the wedges of an answer
@@ -100,92 +104,39 @@ module _ (first second : List ℤ) (pair : SoundPair first second) {before : Lis
       piece-seen first second pair (g .cutting) valid (p .c) (p .S) R (p .is-centre .centre .0)
       (p .is-centre .centre .1) W (p .among)
 
-  -- ---- so each has an area, and none is passed over
-  pub wedge-has-area : (W : Wedge) → In W (wedges-given g) → 0 < wedge-area first W
-  wedge-has-area W i =
+  -- ---- a wedge has an area where its spokes are lines of strict sight in the first drawing; so none is flat where
+  -- all spokes are
+  pub record StrictSpokes (W : Wedge) : Type 0 where
+    pub to-from : Sees first (W .centre) (W .from)
+    pub to-to : Sees first (W .centre) (W .to)
+
+  pub strict-area : (W : Wedge) → In W (wedges-given g) → StrictSpokes W → 0 < wedge-area first W
+  strict-area W i s =
       let w = wedge-seen W i in
       some (Turn (corner first (W .centre)) (corner first (W .from)) (corner first (W .to)))
       (seen-area first (pair .first-sound .simple) (W .centre) (W .from) (W .to)
       (w .centre-below) (w .from-below) (w .to-below) (w .centre-from) (w .from-to) (w .to-centre)
-      (w .sees-from .0) (w .sees-along .0) (w .sees-to .0))
+      (s .to-from) (w .strict-along .0) (sees-mutual (s .to-to)))
     where
       some : (z : ℤ) → ¬ (z ≡ pos 0) → 0 < natAbs z
       some (pos zero) n = absurd (n refl)
       some (pos (suc k)) n = omega arith
       some (negsuc k) n = omega arith
 
-  -- ---- two corners of a wedge see each other
-  two-see : (W : Wedge) → In W (wedges-given g) → (x y : ℕ) → ¬ (x ≡ y) → Of x W → Of y W →
-      (x < corners first) × (y < corners first) × InBoth first second x y
-  two-see W i x y n p q = go p q
-    where
-      w : SeenWedge first second W
-      w = wedge-seen W i
+  pub strict-no-flat : ((W : Wedge) → In W (wedges-given g) → StrictSpokes W) → NoFlatWedge first (wedges-given g)
+  strict-no-flat s W i = strict-area W i (s W i)
 
-      c : ℕ
-      c = W .centre
-
-      a : ℕ
-      a = W .from
-
-      b : ℕ
-      b = W .to
-
-      Both : ℕ → ℕ → Type 0
-      Both x y = (x < corners first) × (y < corners first) × InBoth first second x y
-
-      ca : Both c a
-      ca = (w .centre-below, w .from-below, w .sees-from)
-
-      ab : Both a b
-      ab = (w .from-below, w .to-below, w .sees-along)
-
-      bc : Both b c
-      bc = (w .to-below, w .centre-below, w .sees-to)
-
-      back : (x y : ℕ) → Both x y → Both y x
-      back x y h = (h .1, h .0, each-other first second x y (h .2))
-
-      as-named : (s t : ℕ) → x ≡ s → y ≡ t → Both s t → Both x y
-      as-named s t e f h = subst (λ k. Both k y) (sym e) (subst (λ k. Both s k) (sym f) h)
-
-      go : Of x W → Of y W → Both x y
-      go (inl e) (inl f) = absurd (n (e ∙ sym f))
-      go (inl e) (inr (inl f)) = as-named c a e f ca
-      go (inl e) (inr (inr f)) = as-named c b e f (back b c bc)
-      go (inr (inl e)) (inl f) = as-named a c e f (back c a ca)
-      go (inr (inl e)) (inr (inl f)) = absurd (n (e ∙ sym f))
-      go (inr (inl e)) (inr (inr f)) = as-named a b e f ab
-      go (inr (inr e)) (inl f) = as-named b c e f bc
-      go (inr (inr e)) (inr (inl f)) = as-named b a e f (back a b ab)
-      go (inr (inr e)) (inr (inr f)) = absurd (n (e ∙ sym f))
-
-  -- ---- no corner stands on a line of a wedge but its two ends, in either drawing
-  pub no-corner-between : (W : Wedge) → In W (wedges-given g) → (x y : ℕ) → ¬ (x ≡ y) → Of x W → Of y W →
-      (z : ℕ) → z < corners first → ¬ (z ≡ x) → ¬ (z ≡ y) →
-      (¬ OnSegment (spot (corner first z)) (corner first x) (corner first y))
-      × (¬ OnSegment (spot (corner second z)) (corner second x) (corner second y))
-  no-corner-between W i x y n p q z hz zx zy =
-      let h = two-see W i x y n p q in
+  -- ---- the line from..to: no corner stands on it but its two ends, in either drawing
+  pub no-corner-between : (W : Wedge) → In W (wedges-given g) →
+      (z : ℕ) → z < corners first → ¬ (z ≡ W .from) → ¬ (z ≡ W .to) →
+      (¬ OnSegment (spot (corner first z)) (corner first (W .from)) (corner first (W .to)))
+      × (¬ OnSegment (spot (corner second z)) (corner second (W .from)) (corner second (W .to)))
+  no-corner-between W i z hz zx zy =
+      let w = wedge-seen W i in
       let there : (k : ℕ) → k < corners first → k < corners second =
       λ k l. omega (arith, l, equally-many (pair .alike)) in (
-        none-between first (pair .first-sound .simple) x y z (h .0) (h .1) hz n (h .2 .0) zx zy,
-        none-between second (pair .second-sound .simple) x y z (there x (h .0)) (there y (h .1)) (there z hz) n
-            (h .2 .1) zx zy,
+        none-between first (pair .first-sound .simple) (W .from) (W .to) z (w .from-below) (w .to-below) hz
+            (w .from-to) (w .strict-along .0) zx zy,
+        none-between second (pair .second-sound .simple) (W .from) (W .to) z (there (W .from) (w .from-below))
+            (there (W .to) (w .to-below)) (there z hz) (w .from-to) (w .strict-along .1) zx zy,
       )
-
-  -- ---- so two wedges never have only a part of a line in common: lines of theirs with two different points in common
-  -- have the same ends
-  pub same-line : (W U : Wedge) → In W (wedges-given g) → In U (wedges-given g) → (x y u t : ℕ) →
-      ¬ (x ≡ y) → Of x W → Of y W → ¬ (u ≡ t) → Of u U → Of t U → (z w : Spot) → Differ z w →
-      OnSegment z (corner first x) (corner first y) → OnSegment w (corner first x) (corner first y) →
-      OnSegment z (corner first u) (corner first t) → OnSegment w (corner first u) (corner first t) →
-      ((u ≡ x) × (t ≡ y)) ⊎ ((u ≡ y) × (t ≡ x))
-  same-line W U i j x y u t n p q m r s z w f a b c d =
-      one-line first (pair .first-sound .simple) z w f x y u t (line W i x y n p q) (line U j u t m r s) (a, b) (c, d)
-    where
-      line : (W : Wedge) → In W (wedges-given g) → (x y : ℕ) → ¬ (x ≡ y) → Of x W → Of y W →
-          SightLine first x y
-      line W i x y n p q =
-          let h = two-see W i x y n p q in
-          record { x-below = h .0; y-below = h .1; apart = n; sees = h .2 .0 }
