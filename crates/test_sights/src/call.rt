@@ -21,10 +21,10 @@ pub const NOT_ANTICLOCKWISE: u8 = 5;
 
 pub const SOUND: u8 = 0;
 
-// What comes back, or must: the number, and whether the call of `sight` is served.
-pub struct Due {
-    pub number: u8,
-    pub served: bool,
+// What both calls say of the list.
+struct Said {
+    judged: u8,
+    sighted: u8,
 }
 
 fn number_of(j: Judged) -> u8 {
@@ -42,8 +42,8 @@ fn judged(xy: &[i32]) -> u8 {
     number_of(drawing::judge(xy))
 }
 
-fn seen(xy: &[i32], cells: &mut [u8]) -> bool {
-    drawing::sight(xy, cells)
+fn sighted(xy: &[i32], cells: &mut [u8]) -> u8 {
+    number_of(drawing::sight(xy, cells))
 }
 
 pub fn counted(b: bool) -> u64
@@ -52,51 +52,49 @@ pub fn counted(b: bool) -> u64
     if b { 1 } else { 0 }
 }
 
-// Whether the calls give what they must, with so many cells of the buffer lent; `what` and `line` name them where
-// they do not.
+// Whether both calls say `due`, and leave the buffer as `after` has it, with so many of its cells lent; `what` and
+// `line` name them where they do not.
 pub fn holds(
     what: &[u8],
     line: u64,
     xy: &[i32],
     lent: usize,
-    due: Due,
+    due: u8,
     cells: &mut [u8],
     after: &[u8],
 ) -> bool
     requires { ⌜ lent ≤ length (now cells) ⌝ }
 {
     fill(cells);
-    let number = judged(xy);
-    let served = seen(xy, &mut cells[..lent]);
-    let place = agree(cells, after);
-    let got = Due {
-        number: number,
-        served: served,
+    let said = Said {
+        judged: judged(xy),
+        sighted: sighted(xy, &mut cells[..lent]),
     };
-    if right(got, due, place, cells.len()) {
+    let place = agree(cells, after);
+    if right(said, due, place, cells.len()) {
         return true;
     }
     io::write_all(1, what);
-    report(line, number, served, place as u64);
+    report(line, said, place as u64);
     false
 }
 
-fn right(got: Due, due: Due, place: usize, end: usize) -> bool {
-    if got.number != due.number {
+fn right(said: Said, due: u8, place: usize, end: usize) -> bool {
+    if said.judged != due {
         return false;
     }
-    if got.served != due.served {
+    if said.sighted != due {
         return false;
     }
     place == end
 }
 
-fn report(line: u64, number: u8, served: bool, place: u64) {
+fn report(line: u64, said: Said, place: u64) {
     io::print_decimal(1, line);
-    io::write_all(1, b": number ");
-    io::print_decimal(1, number as u64);
-    io::write_all(1, b", served ");
-    io::print_decimal(1, counted(served));
+    io::write_all(1, b": judged ");
+    io::print_decimal(1, said.judged as u64);
+    io::write_all(1, b", by sight ");
+    io::print_decimal(1, said.sighted as u64);
     io::write_all(1, b"; the buffer is right up to place ");
     io::print_decimal(1, place);
     io::write_all(1, b"\n");

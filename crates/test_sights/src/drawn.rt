@@ -1,6 +1,5 @@
 // A drawing of the file: read, and its calls run.
 use crate::call;
-use crate::call::Due;
 use limits::MOST_CORNERS;
 use limits::MOST_NUMBERS;
 use limits::ROW;
@@ -82,15 +81,16 @@ fn after(text: &[u8], at: usize) -> usize {
     if at < text.len() { at + 1 } else { at }
 }
 
+// A cell is a digit from 0 to 3: 1 for strict sight plus 2 for a centre's.
 fn is_cell(c: u8) -> bool {
-    if c == b'0' {
-        return true;
+    if c < b'0' {
+        return false;
     }
-    c == b'1'
+    c <= b'3'
 }
 
 fn cell(c: u8) -> u8 {
-    if c == b'1' { 1 } else { 0 }
+    if c < b'0' { 0 } else { c - b'0' }
 }
 
 // A word with a digit for each cell of `out`.
@@ -145,13 +145,13 @@ fn unreadable() -> Drawn
     }
 }
 
-// The rows that stand after the judgement; after a coordinate out of range there are none.
+// The rows that stand after the judgement; a drawing that is not sound has none.
 fn cells(text: &[u8], at: usize, n: usize, number: u8, out: &mut [u8]) -> Part
     requires { ⌜ (n ≤ most-corners) × (all-cells ≤ length (now out)) ⌝ }
     ensures { λ r. ⌜ r .cells ≤ all-cells ⌝ }
 {
     fill(out);
-    if number == call::OUT_OF_RANGE {
+    if number != call::SOUND {
         return Part {
             cells: 0,
             next: at,
@@ -208,14 +208,10 @@ fn run(line: u64, text: &[u8], at: usize, xy: &mut [i32], room: &mut [u8], out: 
         };
     }
     let m = 2 * d.corners;
-    let due = Due {
-        number: d.number,
-        served: d.number != call::OUT_OF_RANGE,
-    };
     Ran {
         next: d.next,
         cells: d.cells,
-        right: call::holds(b"line ", line, &xy[..m], room.len(), due, room, out),
+        right: call::holds(b"line ", line, &xy[..m], room.len(), d.number, room, out),
     }
 }
 

@@ -1,7 +1,6 @@
 // Calls at 01's limits: a buffer of a cell too few, a list of odd length, 2 corners, none and 65 keep every cell; a
 // triangle with just as many cells as are asked for is told.
 use crate::call::BUFFER;
-use crate::call::Due;
 use crate::call::MISSHAPEN;
 use crate::call::SOUND;
 use crate::call::counted;
@@ -25,14 +24,10 @@ fn keeps(call: u64, xy: &[i32], lent: usize, number: u8) -> u64
     let mut room = [0u8; BUFFER];
     let mut after = [0u8; BUFFER];
     fill(&mut after);
-    let due = Due {
-        number: number,
-        served: false,
-    };
-    counted(!holds(b"limits, call ", call, xy, lent, due, &mut room, &after))
+    counted(!holds(b"limits, call ", call, xy, lent, number, &mut room, &after))
 }
 
-// A triangle with just as many cells as are asked for: all see all.
+// A triangle with just as many cells as are asked for: all see all, in both ways.
 fn sees_all(call: u64) -> u64
     ensures { λ r. ⌜ r ≤ 1 ⌝ }
 {
@@ -40,18 +35,14 @@ fn sees_all(call: u64) -> u64
     let mut room = [0u8; BUFFER];
     let mut after = [0u8; BUFFER];
     fill(&mut after);
-    rows(b"111 111 111", 0, FEWEST_CORNERS, &mut after);
-    let due = Due {
-        number: SOUND,
-        served: true,
-    };
+    rows(b"333 333 333", 0, FEWEST_CORNERS, &mut after);
     counted(
         !holds(
             b"limits, call ",
             call,
             &triangle,
             ALL_CELLS,
-            due,
+            SOUND,
             &mut room,
             &after,
         ),

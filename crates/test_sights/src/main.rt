@@ -1,9 +1,9 @@
 // Runs `judge` and `sight` on every drawing of sight.txt, and on calls at 01's limits, and prints what differs: the
-// judgement, whether sight was told, and every cell of the buffer, also those that must keep their values.
+// judgement by either call, and every cell of the buffer, also those that must keep their values.
 //
-// A line of the file is a drawing: its corners, the coordinates, the word of its judgement, and, unless a coordinate
-// is out of range, a row of digits for each corner. What is not of this form counts as a difference and ends the
-// file.
+// A line of the file is a drawing: its corners, the coordinates, the word of its judgement, and, where it is sound, a
+// row of digits for each corner: 1 for strict sight plus 2 for a centre's. What is not of this form counts as a
+// difference and ends the file.
 use recorded::decimals::word_start;
 ghost use Prim.Native.Nat.{_≤_};
 ghost use lib.ListN.{length};

@@ -12,14 +12,14 @@ fill-requires c κs = tt
 judged-requires : tie.Need-judged-requires
 judged-requires c κs = tt
 
-slice-relend-prefix-seen : tie.Need-slice-relend-prefix-seen
-slice-relend-prefix-seen c = search needs
+slice-relend-prefix-sighted : tie.Need-slice-relend-prefix-sighted
+slice-relend-prefix-sighted c = search needs
 
-slice-aggregate-seen : tie.Need-slice-aggregate-seen
-slice-aggregate-seen c = simp length-take (omega arith)
+slice-aggregate-sighted : tie.Need-slice-aggregate-sighted
+slice-aggregate-sighted c = simp length-take (omega arith)
 
-seen-requires : tie.Need-seen-requires
-seen-requires c κs = tt
+sighted-requires : tie.Need-sighted-requires
+sighted-requires c κs = tt
 
 agree-requires : tie.Need-agree-requires
 agree-requires c κs = tt
@@ -51,9 +51,9 @@ holds-spec =
     (tie.spec
     fill-requires
     judged-requires
-    slice-relend-prefix-seen
-    slice-aggregate-seen
-    seen-requires
+    slice-relend-prefix-sighted
+    slice-aggregate-sighted
+    sighted-requires
     agree-requires
     right-requires
     same-length
