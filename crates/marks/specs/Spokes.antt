@@ -17,11 +17,13 @@ use Rattle.outline.specs.InOrOn.{CentreSees}
 use Rattle.outline.specs.Segments.{turned-first, turned-second}
 use Rattle.outline.specs.Seeing.{sees-mutual, beside-or}
 use Rattle.outline.specs.Placed.{On, on-turn}
-use Rattle.outline.specs.Stretch.{len2}
-use Rattle.outline.specs.CentreTest.{corners-apart, sees-parts, sees-clear}
+use Rattle.outline.specs.Along.{len2}
+use Rattle.outline.specs.CornersApart.{corners-apart}
+use Rattle.outline.specs.CentreParts.{sees-parts}
+use Rattle.outline.specs.CentreMiddle.{sees-clear}
 use Rattle.outline.specs.CentreSight.{centre-mutual}
 use Rattle.outline.specs.Way.{GrazedBy, FreeOf}
-use Rattle.outline.specs.Kinds.{free-kinds}
+use Rattle.outline.specs.TwoKinds.{free-kinds}
 use Rattle.outline.specs.Squeezed.{shorter, length-turned, part-on}
 use Rattle.outline.specs.Straight.{near-straight, far-straight}
 use Rattle.outline.specs.Across.{Beyond, centre-across}

@@ -18,10 +18,12 @@ use Rattle.outline.specs.Segments.{exchanged, turned-second}
 use Rattle.outline.specs.Round.{next-inner, next-last}
 use Rattle.outline.specs.Seeing.{sees-mutual}
 use Rattle.outline.specs.Placed.{On, on-turn, touch-meets}
-use Rattle.outline.specs.Stretch.{len2}
-use Rattle.outline.specs.CentreTest.{corners-apart, sees-parts, sees-clear}
+use Rattle.outline.specs.Along.{len2}
+use Rattle.outline.specs.CornersApart.{corners-apart}
+use Rattle.outline.specs.CentreParts.{sees-parts}
+use Rattle.outline.specs.CentreMiddle.{sees-clear}
 use Rattle.outline.specs.Way.{GrazedBy, FreeOf}
-use Rattle.outline.specs.Kinds.{free-kinds}
+use Rattle.outline.specs.TwoKinds.{free-kinds}
 use Rattle.outline.specs.Squeezed.{part-shared, first-shared, shorter, length-turned}
 use Rattle.outline.specs.Interleaved.{interleaved-meet}
 

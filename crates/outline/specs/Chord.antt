@@ -15,22 +15,24 @@ use borrow.Author.Tests.{eq-eqb, ne-eqb}
 use lib.Dec.{eqb}
 use lib.IntN.{ℤ, pos}
 use Rattle.whole.specs.Order.{Positive}
-use Rattle.outline.specs.Drawing.{Point, Shared, SharedOnlyAt, IsAt, Simple, corner, corners}
-use Rattle.outline.specs.Drawing.{after, EndsAt, Beside, Clear, Sees}
+use Rattle.outline.specs.Drawing.{Point, Shared, SharedOnlyAt, IsAt, Simple, corner, corners, after, EndsAt}
+use Rattle.outline.specs.Drawing.{Beside, Clear, Sees}
 use Rattle.outline.specs.Segments.{exchanged, turned-first, only-exchanged, only-second, only-first}
 use Rattle.outline.specs.Ends.{OnlyEnd, only-complete}
 use Rattle.outline.specs.Round.{next-inner}
 use Rattle.outline.specs.Seeing.{clear-sight}
 use Rattle.outline.specs.Placed.{On, on-turn}
-use Rattle.outline.specs.Stretch.{len2}
-use Rattle.outline.specs.EveryPoint as closed-line
+use Rattle.outline.specs.Along.{len2, apart-length}
 use Rattle.outline.specs.Reading.{round, round-inner}
-use Rattle.outline.specs.CentreTest.{apart-length, corners-apart, simple-read}
-use Rattle.outline.specs.OneLook.{foreign, grazed-unseen}
+use Rattle.outline.specs.CornersApart.{corners-apart, simple-read}
+use Rattle.outline.specs.Barred.{off-side, grazed-unseen}
 use Rattle.outline.specs.Value.{left}
-use Rattle.outline.specs.AtCorner.{Away, same-left}
-use Rattle.outline.specs.HalfWay.{strictly-away, len-turned, turns}
+use Rattle.outline.specs.Directions.{Away, away-of, length-back}
+use Rattle.outline.specs.NearCorner.{Corner}
+use Rattle.outline.specs.CornerSides.{same-left}
+use Rattle.outline.specs.AtCorner.{turns}
 use Rattle.outline.specs.Past.{at-start, at-end}
+use Rattle.outline.specs.EveryPoint as closed-line
 
 -- a sees a + m, with corners between the two (`wide`) and after them (`small`)
 pub record Chord (d : List ℤ) (a m : ℕ) : Type 0 where
@@ -180,7 +182,7 @@ module _ {d : List ℤ} {a m : ℕ} (chord : Chord d a m) where
   pub at-next : (s : ℕ) → s < m → c (suc s) ≡ corner d (suc (a + s))
   at-next s h = on-chain (suc s) (omega arith) ∙ ap (corner d) (omega arith)
 
-  pub off : (s : ℕ) → s < m → (i : ℕ) → i < suc m → ¬ (i ≡ s) → ¬ (i ≡ suc s) → ¬ On (c (suc s)) (c i) (c (suc i))
+  off : (s : ℕ) → s < m → (i : ℕ) → i < suc m → ¬ (i ≡ s) → ¬ (i ≡ suc s) → ¬ On (c (suc s)) (c i) (c (suc i))
   off s h i hi ns nt o =
       side-of (λ j p q. ¬ (j ≡ a + s) → ¬ (j ≡ suc (a + s)) → ¬ On (corner d (suc (a + s))) p q) sides line i hi
       (λ e. ns (omega (arith, e))) (λ e. nt (omega (arith, e))) (subst (λ z. On z (c i) (c (suc i))) (at-next s h) o)
@@ -193,7 +195,7 @@ module _ {d : List ℤ} {a m : ℕ} (chord : Chord d a m) where
 
       sides : (j : ℕ) → a ≤ j → j < b → ¬ (j ≡ a + s) → ¬ (j ≡ suc (a + s)) →
           ¬ On (corner d (suc (a + s))) (corner d j) (corner d (after d j))
-      sides j g f n1 n2 = foreign d (chord .simple) (suc (a + s)) j below (omega (arith, f, chord .small)) ends
+      sides j g f n1 n2 = off-side d (chord .simple) (suc (a + s)) j below (omega (arith, f, chord .small)) ends
         where
           ends : ¬ EndsAt d j (suc (a + s))
           ends (inl e) = n2 e
@@ -206,7 +208,7 @@ module _ {d : List ℤ} {a m : ℕ} (chord : Chord d a m) where
           (record { below = below; not-i = λ e. omega (arith, e); not-j = λ e. n2 (sym e); on = on-turn o })
           (chord .sees)
 
-  pub turns-at : (s : ℕ) → s < m → Away (c (suc s)) (c (suc (suc s))) (c s)
+  turns-at : (s : ℕ) → s < m → Away (c (suc s)) (c (suc (suc s))) (c s)
   turns-at s h = go (ℕ-discrete (suc s) m)
     where
       k : ℕ
@@ -220,15 +222,18 @@ module _ {d : List ℤ} {a m : ℕ} (chord : Chord d a m) where
 
       go : Dec (suc s ≡ m) → Away (c (suc s)) (c (suc (suc s))) (c s)
       go (no ne) =
-          subst (λ z. Away z (c (suc (suc s))) (c s)) (round-inner d (suc (a + s)) below ∙ sym (at-next s h))
-          (subst (λ z. Away (round d (suc (a + s))) z (c s))
-          (ap (corner d) (after-is (suc (a + s)) (omega arith) ∙ omega arith) ∙ sym
-          (on-chain (suc (suc s)) (omega arith)))
-          (subst (Away (round d (suc (a + s))) (corner d (after d (suc (a + s)))))
-          (round-inner d (a + s) (omega (arith, below)) ∙ sym at-s) (turns d (chord .simple) (suc (a + s)) below)))
+          subst (λ z. Away z (c (suc (suc s))) (c s)) (sym (at-next s h))
+          (subst (λ z. Away (corner d (suc (a + s))) z (c s)) next-is
+          (subst (Away (corner d (suc (a + s))) (corner d (after d (suc (a + s))))) (sym at-s)
+          (turns d (chord .simple) (suc (a + s)) below)))
+        where
+          next-is : corner d (after d (suc (a + s))) ≡ c (suc (suc s))
+          next-is =
+              ap (corner d) (after-is (suc (a + s)) (omega arith) ∙ omega arith)
+              ∙ sym (on-chain (suc (suc s)) (omega arith))
       go (yes e) =
-          strictly-away (c (suc s)) (c (suc (suc s))) (c s) (simple-chain .ends (suc s) (omega arith))
-          (len-turned (c s) (c (suc s)) (simple-chain .ends s (omega arith)))
+          away-of (c (suc s)) (c (suc (suc s))) (c s) (simple-chain .ends (suc s) (omega arith))
+          (length-back (c s) (c (suc s)) (simple-chain .ends s (omega arith)))
           (subst (λ z. OnlyEnd z (c (suc (suc s))) (c s)) (sym at-b)
           (subst (λ z. OnlyEnd (corner d b) z (c s)) (sym at-a)
           (subst (OnlyEnd (corner d b) (corner d a)) (sym at-s) only)))
@@ -248,12 +253,23 @@ module _ {d : List ℤ} {a m : ℕ} (chord : Chord d a m) where
               (subst (λ z. SharedOnlyAt (corner d b) (corner d a) (corner d b) (corner d (a + s)) (corner d z)) f
               (clear .ends-at-j (a + s) (omega (arith, below)) (inr f)))))
 
+  pub corner-after : (s : ℕ) → s < m → Corner c (suc m) s (suc s)
+  corner-after s h = record {
+    closed = closed;
+    simple = simple-chain;
+    s-below = omega arith;
+    t-below = omega arith;
+    two = λ e. omega (arith, e);
+    joined = refl;
+    off-others = off s h;
+    turns = turns-at s h;
+  }
+
   -- so the value left of its sides is one value
   abbrev pub left-of : ℕ → Bool
-  left-of = left c (suc m) closed simple-chain
+  left-of = left c (suc m)
 
   pub one-left : (p i : ℕ) → i + p ≡ m → left-of i ≡ left-of m
   one-left zero i e = ap left-of (omega arith)
   one-left (suc p) i e =
-      same-left c (suc m) closed simple-chain i (suc i) (omega arith) (omega arith) (λ q. omega arith) refl
-      (off i (omega arith)) (turns-at i (omega arith)) ∙ one-left p (suc i) (omega arith)
+      same-left c (suc m) i (suc i) (corner-after i (omega arith)) ∙ one-left p (suc i) (omega arith)

@@ -10,14 +10,14 @@ use Rattle.whole.specs.Order.{Positive, nonneg-pos, positive-add}
 use Rattle.outline.specs.Drawing.{Point, InsideAngle, corner}
 use Rattle.outline.specs.Ends.{OnlyEnd}
 use Rattle.outline.specs.Parity.{odd, out, large}
-use Rattle.outline.specs.ParityRound.{same-parity, odd-scale}
-use Rattle.outline.specs.Stretch.{len2}
-use Rattle.outline.specs.CentreTest.{apart-length}
+use Rattle.outline.specs.ParityRound.{same-parity}
+use Rattle.outline.specs.Scale.{odd-scale}
+use Rattle.outline.specs.Along.{len2, apart-length}
 use Rattle.outline.specs.Near.{near}
-use Rattle.outline.specs.AtCorner.{Verdict, Close, corner-tells}
-use Rattle.outline.specs.HalfWay.{strictly-away, len-turned}
+use Rattle.outline.specs.CornerTells.{Verdict, Close, corner-tells}
+use Rattle.outline.specs.Directions.{away-of, length-back}
 use Rattle.outline.specs.Past.{Past, past}
-use Rattle.outline.specs.Chord.{Chord, chain, closed, simple-chain, at-next, off, turns-at, left-of}
+use Rattle.outline.specs.Chord.{Chord, chain, closed, simple-chain, at-next, corner-after, left-of}
 
 module _ {d : List ℤ} {a m : ℕ} (chord : Chord d a m) where
   abbrev c : ℕ → Point
@@ -29,15 +29,12 @@ module _ {d : List ℤ} {a m : ℕ} (chord : Chord d a m) where
     len-J : Positive (len2 (c (suc s)) J)
     len-J = subst (λ z. Positive (len2 z J)) (sym (at-next chord s hs)) (apart-length (corner d (suc (a + s))) J apart)
 
-    tells : Close c (suc m) s (suc s) (left-of chord (suc s)) J
+    tells : Close c (suc m) (left-of chord (suc s)) (c s) (c (suc s)) (c (suc (suc s))) J
     tells =
-        corner-tells c (suc m) (closed chord) (simple-chain chord) s (suc s) (omega arith) (omega arith)
-        (λ q. omega arith) refl (off chord s hs)
-        (turns-at chord s hs) J len-J
-        (strictly-away (c (suc s)) J (c (suc (suc s))) len-J (simple-chain chord .ends (suc s) (omega arith))
-        only-next)
-        (strictly-away (c (suc s)) J (c s) len-J
-        (len-turned (c s) (c (suc s)) (simple-chain chord .ends s (omega arith))) only-last)
+        corner-tells c (suc m) s (suc s) (corner-after chord s hs) J len-J
+        (away-of (c (suc s)) J (c (suc (suc s))) len-J (simple-chain chord .ends (suc s) (omega arith)) only-next)
+        (away-of (c (suc s)) J (c s) len-J
+        (length-back (c s) (c (suc s)) (simple-chain chord .ends s (omega arith))) only-last)
 
     arrives : (K : ℤ) → Positive (K -ℤ pos 1) → odd (large K c) (near (c (suc s)) K J) (suc m) ≡ odd c J (suc m)
     arrives K big =

@@ -8,10 +8,10 @@ use lib.IntN.{ℤ, pos, _+ℤ_, _-ℤ_, _*ℤ_}
 use lib.Signed.{<ℤ-irrefl}
 use Rattle.whole.specs.Ring.{E, v, con, _:+_, _:-_, _:*_, ring1, ring2, by-ring}
 use Rattle.whole.specs.Order.{Nonneg, Positive, nonneg-pos, nonneg-mul, positive-nonneg, positive-add, positive-mul}
-use Rattle.whole.specs.Order.{zero-cancel, le-sub, sub-le}
+use Rattle.whole.specs.Order.{zero-cancel, le-sub, sub-le, diff-zero}
 use Rattle.outline.specs.Drawing.{Point, Shared, SharedOnlyAt, IsAt}
 use Rattle.outline.specs.Parity.{out}
-use Rattle.outline.specs.Stretch.{len2, from-zero}
+use Rattle.outline.specs.Along.{len2}
 use Rattle.outline.specs.Near.{near}
 
 -- ---- where a shared point is at an end of the first segment: a b are 0 to 3, p r are 4 and 5
@@ -30,7 +30,7 @@ at-start a b p r n i =
 
 pub at-end : (a b : Point) (p r : ℤ) → Positive (len2 a b) → IsAt b a b p r → p ≡ r
 at-end a b p r n i =
-    from-zero p r (zero-cancel n
+    diff-zero p r (zero-cancel n
     (ring2 (S a b p r) (LenE :* (v 4 :- v 5)) (con (pos 0))
     (v 2 :- v 0) (v 5 :* v 0 :+ v 4 :* (v 2 :- v 0)) (v 5 :* v 2)
     (v 3 :- v 1) (v 5 :* v 1 :+ v 4 :* (v 3 :- v 1)) (v 5 :* v 3) (i .on-x) (i .on-y) refl))

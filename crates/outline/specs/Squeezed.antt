@@ -11,17 +11,18 @@ use lib.IntN.{ℤ, pos, negsuc, natAbs, negℤ, _+ℤ_, _-ℤ_, _*ℤ_}
 use lib.Signed.{_<ℤ_}
 use Rattle.whole.specs.Ring.{E, v, con, _:+_, _:-_, _:*_, neg, ring, ring1, ring2, by-ring}
 use Rattle.whole.specs.Order.{Nonneg, Positive, nonneg-pos, nonneg-add, nonneg-mul, positive-nonneg, positive-add}
-use Rattle.whole.specs.Order.{positive-mul, positive-cancel, square-nonneg, le-sub, sub-le, lt-sub, sub-lt}
-use Rattle.whole.specs.Order.{Sign, plus, nought, minus, sign}
+use Rattle.whole.specs.Order.{positive-mul, positive-cancel, square-nonneg, le-sub, sub-le, lt-sub, sub-lt, Sign, plus}
+use Rattle.whole.specs.Order.{nought, minus, sign}
 use Rattle.outline.specs.Drawing.{Point, Shared}
 use Rattle.outline.specs.InOrOn.{spot, OnSegment}
 use Rattle.outline.specs.OnSegment.{shared-on}
 use Rattle.outline.specs.Segments.{exchanged, turned-first}
 use Rattle.outline.specs.Placed.{On, Frac, on-of, frac-of, on-turn, touch-meets}
-use Rattle.outline.specs.Stretch.{len2}
-use Rattle.outline.specs.Between.{Decide, on-dec, along-low}
-use Rattle.outline.specs.Through.{val, apart-by, Sep, sep}
-use Rattle.outline.specs.CentreTest.{apart-on, before-j}
+use Rattle.outline.specs.Along.{len2, along-low}
+use Rattle.outline.specs.Tells.{Decide, decided}
+use Rattle.outline.specs.OnTest.{on-tells}
+use Rattle.outline.specs.LineBetween.{off-line, kept-apart, LineBetween, line-between}
+use Rattle.outline.specs.CentreParts.{apart, before-j}
 
 -- ---- k is on ij: what kj shares with xy, ij shares
 pub part-shared : (i k j x y : Point) → On k i j → Shared k j x y → Shared i j x y
@@ -63,27 +64,27 @@ first-shared i k j x y o s = turned-first (part-shared j k i x y (on-turn o) (tu
 
 -- ---- k is on ij, and both parts share a point with xy: then k is on xy
 pub squeezed : (i k j x y : Point) → On k i j → Positive (len2 x y) → Shared i k x y → Shared k j x y → On k x y
-squeezed i k j x y o len s t = go (on-dec k x y)
+squeezed i k j x y o len s t = go (decided (on-tells k x y))
   where
-    low : (z : Point) (h : Sep k x y) → (Positive (val (h .u) (h .w) (h .g) z) → ⊥) →
-        Nonneg (negℤ (val (h .u) (h .w) (h .g) z))
-    low z h n = at (sign (val (h .u) (h .w) (h .g) z))
+    low : (z : Point) (h : LineBetween k x y) → ¬ Positive (off-line (h .u) (h .w) (h .e) z) →
+        Nonneg (negℤ (off-line (h .u) (h .w) (h .e) z))
+    low z h n = at (sign (off-line (h .u) (h .w) (h .e) z))
       where
-        at : Sign (val (h .u) (h .w) (h .g) z) → Nonneg (negℤ (val (h .u) (h .w) (h .g) z))
+        at : Sign (off-line (h .u) (h .w) (h .e) z) → Nonneg (negℤ (off-line (h .u) (h .w) (h .e) z))
         at (plus a) = absurd (n a)
         at (nought e) = subst (λ z. Nonneg (negℤ z)) (sym e) (nonneg-pos 0)
         at (minus a) = positive-nonneg a
 
-    between : Sep k x y → ⊥
+    between : LineBetween k x y → ⊥
     between h =
-        apart-by k k i j (h .u) (h .w) (h .g) (h .up) (h .up)
-        (low i h (λ a. apart-by i k x y (h .u) (h .w) (h .g) a (h .up) (h .da) (h .db) s))
-        (low j h (λ a. apart-by k j x y (h .u) (h .w) (h .g) (h .up) a (h .da) (h .db) t))
+        kept-apart k k i j (h .u) (h .w) (h .e) (h .ahead) (h .ahead)
+        (low i h (λ a. kept-apart i k x y (h .u) (h .w) (h .e) a (h .ahead) (h .a-behind) (h .b-behind) s))
+        (low j h (λ a. kept-apart k j x y (h .u) (h .w) (h .e) (h .ahead) a (h .a-behind) (h .b-behind) t))
         (exchanged (touch-meets i j k k (inl (inl o))))
 
     go : Decide (On k x y) → On k x y
     go (inl q) = q
-    go (inr n) = absurd (between (sep k x y len n))
+    go (inr n) = absurd (between (line-between k x y len n))
 
 -- ---- a part of a segment is shorter
 abs-less : (a b : ℤ) → Nonneg a → a <ℤ b → natAbs a < natAbs b
@@ -101,7 +102,7 @@ shorter i k j o ik kj =
     (positive-mul (lt-sub (before-j k i k j o o ik kj)) (positive-add n+ (along-low k i j o))))))
   where
     n+ : Positive (len2 i j)
-    n+ = apart-on k i k j o o ik kj
+    n+ = apart k i k j o o ik kj
 
     N : E
     N = (v 4 :- v 0) :* (v 4 :- v 0) :+ (v 5 :- v 1) :* (v 5 :- v 1)

@@ -11,8 +11,8 @@ use Rattle.whole.specs.Order.{Nonneg, Positive, nonneg-add, nonneg-mul, positiv
 use Rattle.whole.specs.Order.{zero-cancel, le-sub, lt-sub, Sign, plus, nought, minus, sign}
 use Rattle.outline.specs.Drawing.{Point, Shared, Turn}
 use Rattle.outline.specs.Placed.{On, Frac, frac-of, on-turn}
-use Rattle.outline.specs.Stretch.{len2, along}
-use Rattle.outline.specs.CentreTest.{apart-on, before-j}
+use Rattle.outline.specs.Along.{len2, along}
+use Rattle.outline.specs.CentreParts.{apart, before-j}
 
 module _ (i k j s : Point) (o : On k i j) (ik : ¬ (i ≡ k)) (kj : ¬ (k ≡ j)) (t : Shared i s k j) where
   abbrev ρ : List ℤ
@@ -38,7 +38,7 @@ module _ (i k j s : Point) (o : On k i j) (ik : ¬ (i ≡ k)) (kj : ¬ (k ≡ j)
   Ry = v 10 :* v 3 :+ v 9 :* (v 5 :- v 3)
 
   whole : Positive (len2 i j)
-  whole = apart-on k i k j o o ik kj
+  whole = apart k i k j o o ik kj
 
   -- k is past i
   past-i : Positive (along i j k)
