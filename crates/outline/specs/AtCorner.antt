@@ -54,7 +54,7 @@ module _ (d : List ℤ) (simple : Simple d) where
         subst (λ k. SharedOnlyAt (corner d k) (corner d before) (corner d k) (corner d k) (corner d (after d k)))
         (next-prev (corners d) i hi) (simple .neighbours before before-below)
 
-    turns : Away (corner d i) (corner d (after d i)) (corner d before)
+    pub turns : Away (corner d i) (corner d (after d i)) (corner d before)
     turns =
         away-of (corner d i) (corner d (after d i)) (corner d before) side-after side-before
         (only-complete (only-second (only-exchanged only-here)))

@@ -90,10 +90,10 @@ module _ (d : List ℤ) (simple : Simple d) (i j : ℕ) (hi : i < corners d) (hj
       (clear-steady (round d) (corners d) (corner d i) (corner d j) no-side-round) K (above-one K big)
       (near (corner d i) K (corner d j)) (inner-near (corner d i) (corner d j) K big)
 
-  off-after : OnlyEnd (corner d i) (corner d j) (corner d (after d i))
+  pub off-after : OnlyEnd (corner d i) (corner d j) (corner d (after d i))
   off-after = only-complete (passes i hi .ends-at-i (inl refl))
 
-  off-before : OnlyEnd (corner d i) (corner d j) (corner d (prev (corners d) i))
+  pub off-before : OnlyEnd (corner d i) (corner d j) (corner d (prev (corners d) i))
   off-before =
       only-complete (only-second
       (subst (λ k. SharedOnlyAt (corner d i) (corner d i) (corner d j) (corner d (prev (corners d) i)) (corner d k))

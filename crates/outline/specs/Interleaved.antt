@@ -14,15 +14,16 @@ use Prim.Native.Nat.{ℕ, suc, _+_, _-_, _<_, _≤_}
 use native.Mathlib.Omega.{arith}
 use native.Mathlib.Decide.{ℕ-discrete, decLt}
 use lib.IntN.{ℤ}
-use Rattle.outline.specs.Drawing.{Point, Shared, InsideAngle, Simple, corner, corners}
-use Rattle.outline.specs.Drawing.{after, EndsAt, Beside, Clear, Sees}
+use Rattle.outline.specs.Drawing.{Point, Shared, InsideAngle, Simple, corner, corners, after, EndsAt, Beside}
+use Rattle.outline.specs.Drawing.{Clear, Sees}
 use Rattle.outline.specs.Ends.{OnlyEnd}
 use Rattle.outline.specs.Round.{next-inner, next-last}
 use Rattle.outline.specs.Seeing.{clear-sight, clear-passes}
 use Rattle.outline.specs.Parity.{odd}
-use Rattle.outline.specs.CentreTest.{apart-length, corners-apart}
-use Rattle.outline.specs.AtCorner.{Verdict, within, without}
-use Rattle.outline.specs.HalfWay.{only-q, only-p}
+use Rattle.outline.specs.Along.{apart-length}
+use Rattle.outline.specs.CornersApart.{corners-apart}
+use Rattle.outline.specs.CornerTells.{Verdict, within, without}
+use Rattle.outline.specs.HalfWay.{off-after, off-before}
 use Rattle.outline.specs.Past.{Past, only-start}
 use Rattle.outline.specs.Chord.{Chord, chain, on-chain, after-is, side-of, at-next, left-of, one-left}
 use Rattle.outline.specs.Outlook.{value-at}
@@ -38,9 +39,6 @@ module _ {d : List ℤ} {a m : ℕ} (chord : Chord d a m) where
   -- ---- a corner of the chain that sees w has w on the side of its angle
   module _ (w : ℕ) (bw : b < w) (wn : w < corners d) (s : ℕ) (hs : suc s < m) (sees-w : Sees d (suc (a + s)) w)
       (never : ¬ Shared (corner d (suc (a + s))) (corner d w) (corner d b) (corner d a)) where
-    abbrev u : ℕ
-    u = suc (a + s)
-
     hu : suc (a + s) < corners d
     hu = omega (arith, hs, chord .small)
 
@@ -108,9 +106,9 @@ module _ {d : List ℤ} {a m : ℕ} (chord : Chord d a m) where
         told (value-at chord s (omega arith) J (corners-apart d (chord .simple) (suc (a + s)) w hu wn
         (λ q. apart-w (inl q)))
         (subst (λ z. OnlyEnd z J (c (suc (suc s)))) (sym at-u) (subst (OnlyEnd (corner d (suc (a + s))) J) (sym at-q)
-        (only-q d (chord .simple) (suc (a + s)) w hu wn apart-w (clear-passes look))))
+        (off-after d (chord .simple) (suc (a + s)) w hu wn apart-w (clear-passes look))))
         (subst (λ z. OnlyEnd z J (c s)) (sym at-u) (subst (OnlyEnd (corner d (suc (a + s))) J) (sym at-p)
-        (only-p d (chord .simple) (suc (a + s)) w hu wn apart-w (clear-passes look)))) free)
+        (off-before d (chord .simple) (suc (a + s)) w hu wn apart-w (clear-passes look)))) free)
       where
         told : Verdict (left-of chord (suc s)) (InsideAngle (c s) (c (suc s)) (c (suc (suc s))) J)
             (odd c J (suc m)) → odd c J (suc m) ≡ left-of chord (suc s)

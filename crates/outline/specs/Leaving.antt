@@ -8,30 +8,27 @@
 use mathlib.Core.Path.{_≡_, refl, sym, _∙_, ap, subst}
 use mathlib.Core.Bool.{not}
 use mathlib.Core.Logic.{inl, inr}
-use mathlib.Core.List.{List, [], _∷_}
+use mathlib.Core.List.{List}
 use Prim.Native.Nat.{ℕ, zero, suc, _+_, _<_, _≤_}
 use native.Mathlib.Omega.{arith}
 use native.Mathlib.Decide.{ℕ-discrete}
-use lib.IntN.{ℤ, pos, negℤ}
-use lib.Signed.{_<ℤ_}
-use Rattle.whole.specs.Ring.{v, con, _:-_, neg, by-ring}
-use Rattle.whole.specs.Order.{Positive, sub-lt, <ℤ-le}
-use Rattle.outline.specs.Drawing.{Point, Shared, SharedOnlyAt, InsideAngle, corner, corners}
-use Rattle.outline.specs.Drawing.{after, prev, EndsAt}
+use lib.IntN.{ℤ}
+use Rattle.whole.specs.Order.{Positive, below, <ℤ-le}
+use Rattle.outline.specs.Drawing.{Point, Shared, SharedOnlyAt, InsideAngle, corner, corners, after, prev, EndsAt}
 use Rattle.outline.specs.Segments.{exchanged, turned-first, only-exchanged, only-first}
 use Rattle.outline.specs.Ends.{OnlyEnd, only-complete}
-use Rattle.outline.specs.Round.{next-inner, prev-below}
+use Rattle.outline.specs.Round.{next-inner}
 use Rattle.outline.specs.Parity.{odd}
 use Rattle.outline.specs.ParityRound.{same-parity}
-use Rattle.outline.specs.Stretch.{len2}
-use Rattle.outline.specs.Reading.{round, round-inner}
-use Rattle.outline.specs.CentreTest.{apart-length, corners-apart}
-use Rattle.outline.specs.AtCorner.{Away, Verdict, within, without}
-use Rattle.outline.specs.HalfWay.{turns}
+use Rattle.outline.specs.Along.{len2, apart-length}
+use Rattle.outline.specs.CornersApart.{corners-apart}
+use Rattle.outline.specs.Directions.{Away}
+use Rattle.outline.specs.CornerTells.{Verdict, within, without}
+use Rattle.outline.specs.AtCorner.{turns}
 use Rattle.outline.specs.Past.{Past, only-start}
 use Rattle.outline.specs.Parted.{parted}
-use Rattle.outline.specs.Chord.{Chord, chain, on-chain, at-last, closed, after-is}
-use Rattle.outline.specs.Chord.{clear, side-of, at-next, left-of}
+use Rattle.outline.specs.Chord.{Chord, chain, on-chain, at-last, closed, after-is, clear, side-of, at-next}
+use Rattle.outline.specs.Chord.{left-of}
 use Rattle.outline.specs.Outlook.{value-at}
 
 module _ {d : List ℤ} {a m : ℕ} (chord : Chord d a m) where
@@ -128,19 +125,13 @@ module _ {d : List ℤ} {a m : ℕ} (chord : Chord d a m) where
             (subst (OnlyEnd (corner d b) J) (sym at-a) (only-complete line-only))
 
         last-only : OnlyEnd (c (suc s)) J (c s)
-        last-only t = <ℤ-le (negative (away t))
+        last-only t = <ℤ-le (below (away t))
           where
             away : Away (c (suc s)) J (c s)
             away =
-                subst (λ z. Away z J (c s)) (round-inner d b hb ∙ sym at-b)
-                (subst (λ z. Away (round d b) z (c s)) (ap (corner d) next-b)
-                (subst (Away (round d b) (corner d (after d b)))
-                (round-inner d (prev (corners d) b) (prev-below (corners d) b hb) ∙ sym at-p)
-                (turns d (chord .simple) b hb)))
-
-            negative : {z : ℤ} → Positive (negℤ z) → z <ℤ pos 0
-            negative {z} h =
-                sub-lt (by-ring (z ∷ []) Positive (neg (v 0)) (con (pos 0) :- v 0) refl h)
+                subst (λ z. Away z J (c s)) (sym at-b)
+                (subst (λ z. Away (corner d b) z (c s)) (ap (corner d) next-b)
+                (subst (Away (corner d b) (corner d (after d b))) (sym at-p) (turns d (chord .simple) b hb)))
 
         free : (i : ℕ) → i < suc m → Past (c (suc s)) J (c i) (c (suc i)) → ⊥
         free i hi t =

@@ -1,23 +1,23 @@
 -- From a corner of the chain of a chord towards a point J: where no side of the chain is met on the way, J has the
 -- value left of its sides exactly when it lies inside the corner's angle.
-use mathlib.Core.Path.{_≡_, refl, sym, _∙_, ap, subst}
-use mathlib.Core.List.{List, [], _∷_}
+use mathlib.Core.Path.{_≡_, sym, _∙_, ap, subst}
+use mathlib.Core.List.{List}
 use Prim.Native.Nat.{ℕ, suc, _+_, _<_}
 use native.Mathlib.Omega.{arith}
 use lib.IntN.{ℤ, pos, _-ℤ_}
-use Rattle.whole.specs.Ring.{v, con, _:+_, _:-_, by-ring}
-use Rattle.whole.specs.Order.{Positive, nonneg-pos, positive-add}
+use Rattle.whole.specs.Order.{Positive}
 use Rattle.outline.specs.Drawing.{Point, InsideAngle, corner}
 use Rattle.outline.specs.Ends.{OnlyEnd}
 use Rattle.outline.specs.Parity.{odd, out, large}
-use Rattle.outline.specs.ParityRound.{same-parity, odd-scale}
-use Rattle.outline.specs.Stretch.{len2}
-use Rattle.outline.specs.CentreTest.{apart-length}
+use Rattle.outline.specs.ParityRound.{same-parity}
+use Rattle.outline.specs.Scale.{odd-scale}
+use Rattle.outline.specs.Along.{len2, apart-length}
 use Rattle.outline.specs.Near.{near}
-use Rattle.outline.specs.AtCorner.{Verdict, Close, corner-tells}
-use Rattle.outline.specs.HalfWay.{strictly-away, len-turned}
+use Rattle.outline.specs.CornerTells.{Verdict, Close, corner-tells}
+use Rattle.outline.specs.Directions.{away-of, length-back}
+use Rattle.outline.specs.Ray.{above-one}
 use Rattle.outline.specs.Past.{Past, past}
-use Rattle.outline.specs.Chord.{Chord, chain, closed, simple-chain, at-next, off, turns-at, left-of}
+use Rattle.outline.specs.Chord.{Chord, chain, closed, simple-chain, at-next, corner-at, left-of}
 
 module _ {d : List ℤ} {a m : ℕ} (chord : Chord d a m) where
   abbrev c : ℕ → Point
@@ -29,23 +29,19 @@ module _ {d : List ℤ} {a m : ℕ} (chord : Chord d a m) where
     len-J : Positive (len2 (c (suc s)) J)
     len-J = subst (λ z. Positive (len2 z J)) (sym (at-next chord s hs)) (apart-length (corner d (suc (a + s))) J apart)
 
-    tells : Close c (suc m) s (suc s) (left-of chord (suc s)) J
+    tells : Close c (suc m) (left-of chord (suc s)) (c s) (c (suc s)) (c (suc (suc s))) J
     tells =
-        corner-tells c (suc m) (closed chord) (simple-chain chord) s (suc s) (omega arith) (omega arith)
-        (λ q. omega arith) refl (off chord s hs)
-        (turns-at chord s hs) J len-J
-        (strictly-away (c (suc s)) J (c (suc (suc s))) len-J (simple-chain chord .ends (suc s) (omega arith))
+        corner-tells c (suc m) s (suc s) (corner-at chord s hs) J len-J
+        (away-of (c (suc s)) J (c (suc (suc s))) len-J (simple-chain chord .ends (suc s) (omega arith))
         only-next)
-        (strictly-away (c (suc s)) J (c s) len-J
-        (len-turned (c s) (c (suc s)) (simple-chain chord .ends s (omega arith))) only-last)
+        (away-of (c (suc s)) J (c s) len-J
+        (length-back (c s) (c (suc s)) (simple-chain chord .ends s (omega arith))) only-last)
 
     arrives : (K : ℤ) → Positive (K -ℤ pos 1) → odd (large K c) (near (c (suc s)) K J) (suc m) ≡ odd c J (suc m)
     arrives K big =
         same-parity (large K c) (suc m) (ap (out K) (closed chord)) (near (c (suc s)) K J) (out K J)
         (λ i h t. free i h (past (c (suc s)) J (c i) (c (suc i)) K big t))
-        ∙ odd-scale c K J
-        (by-ring (K ∷ []) Positive (v 0 :- con (pos 1) :+ con (pos 1)) (v 0) refl (positive-add big (nonneg-pos 1)))
-        (suc m)
+        ∙ odd-scale c K J (above-one K big) (suc m)
 
     pub value-at :
         Verdict (left-of chord (suc s)) (InsideAngle (c s) (c (suc s)) (c (suc (suc s))) J) (odd c J (suc m))
