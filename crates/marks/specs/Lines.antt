@@ -18,7 +18,7 @@ use Rattle.outline.specs.InOrOn.{Spot, spot, OnSegment, CentreSees}
 use Rattle.outline.specs.TwoPoints.{Differ}
 use Rattle.outline.specs.OneLine.{ClearLine, line-back, one-line}
 use Rattle.outline.specs.Unbroken.{none-between}
-use Rattle.outline.specs.Squeezed.{segment-on}
+use Rattle.outline.specs.Placed.{segment-on}
 use Rattle.pair.specs.Passing.{SoundPair}
 use Rattle.rules.specs.Lists.{In}
 use Rattle.rules.specs.Cutting.{Region, pieces}

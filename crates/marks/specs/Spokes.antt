@@ -6,25 +6,24 @@
 --                             before t and t is flat.
 use mathlib.Core.Path.{_≡_, refl, sym, ap, _∙_, subst}
 use mathlib.Core.Logic.{_⊎_, inl, inr, by-cases}
-use mathlib.Core.List.{List, [], _∷_}
+use mathlib.Core.List.{List, _∷_}
 use Prim.Native.Nat.{ℕ, zero, suc, _≤_, _<_}
 use native.Mathlib.Omega.{arith}
 use native.Mathlib.Decide.{ℕ-discrete, decLt}
-use lib.IntN.{ℤ, pos, natAbs}
-use Rattle.whole.specs.Ring.{v, con, _:-_, _:*_, neg, ring1}
+use lib.IntN.{ℤ, pos}
 use Rattle.outline.specs.Drawing.{Turn, Shared, corner, corners, Beside, Sees}
 use Rattle.outline.specs.InOrOn.{CentreSees}
 use Rattle.outline.specs.Segments.{turned-first, turned-second}
 use Rattle.outline.specs.Seeing.{sees-mutual, beside-or}
-use Rattle.outline.specs.Placed.{On, on-turn}
-use Rattle.outline.specs.Along.{len2}
+use Rattle.outline.specs.Placed.{On}
 use Rattle.outline.specs.CornersApart.{corners-apart}
-use Rattle.outline.specs.CentreParts.{sees-parts}
+use Rattle.outline.specs.CentreParts.{sees-parts, part-on}
 use Rattle.outline.specs.CentreMiddle.{sees-clear}
+use Rattle.outline.specs.Directions.{in-line-back}
 use Rattle.outline.specs.CentreSight.{centre-mutual}
-use Rattle.outline.specs.Way.{GrazedBy, FreeOf}
+use Rattle.outline.specs.Way.{GrazedBy, Free, free-of}
 use Rattle.outline.specs.TwoKinds.{free-kinds}
-use Rattle.outline.specs.Squeezed.{shorter, length-turned, part-on}
+use Rattle.outline.specs.Third.{long, second-shorter}
 use Rattle.outline.specs.Straight.{near-straight, far-straight}
 use Rattle.outline.specs.Across.{Beyond, centre-across}
 use Rattle.rules.specs.Lists.{In}
@@ -135,14 +134,8 @@ module _ {d : List ℤ} {C : Pairs} {f : ℕ} {s : List ℕ} {c : ℕ} (star : S
       ck : ¬ (corner d c ≡ corner d k)
       ck = corners-apart d (star .sound .simple) c k (centre-below star) (g .below) (λ e. g .not-i (sym e))
 
-      kj : ¬ (corner d k ≡ corner d j)
-      kj = corners-apart d (star .sound .simple) k j (g .below) hj (g .not-j)
-
       turned : Turn (corner d c) (corner d k) (corner d j) ≡ pos 0
-      turned =
-          ring1 (corner d c .x ∷ corner d c .y ∷ corner d k .x ∷ corner d k .y ∷ corner d j .x ∷ corner d j .y ∷ [])
-          ((v 2 :- v 0) :* (v 5 :- v 1) :- (v 3 :- v 1) :* (v 4 :- v 0)) (con (pos 0)) (neg (con (pos 1)))
-          ((v 4 :- v 0) :* (v 3 :- v 1) :- (v 5 :- v 1) :* (v 2 :- v 0)) (con (pos 0)) (g .on .line) refl
+      turned = in-line-back (corner d c) (corner d j) (corner d k) (g .on .line)
 
       in-line : Sees d k j → In k (f ∷ s) → ⊥
       in-line see in-k = go (decLt k j)
@@ -158,8 +151,8 @@ module _ {d : List ℤ} {C : Pairs} {f : ℕ} {s : List ℕ} {c : ℕ} (star : S
             flat = turned;
             flat-back = g .on .line;
             straight = λ z t. (
-              near-straight (corner d c) (corner d k) (corner d j) (corner d z) (g .on) ck kj t,
-              far-straight (corner d c) (corner d k) (corner d j) (corner d z) (g .on) ck kj t,
+              near-straight (corner d c) (corner d k) (corner d j) (corner d z) (g .on) ck t,
+              far-straight (corner d c) (corner d k) (corner d j) (corner d z) (g .on) ck t,
             );
           })
           go (no h) = none-in-line j k (record {
@@ -172,8 +165,8 @@ module _ {d : List ℤ} {C : Pairs} {f : ℕ} {s : List ℕ} {c : ℕ} (star : S
             flat = g .on .line;
             flat-back = turned;
             straight = λ z t. (
-              far-straight (corner d c) (corner d k) (corner d j) (corner d z) (g .on) ck kj (turned-second t),
-              near-straight (corner d c) (corner d k) (corner d j) (corner d z) (g .on) ck kj (turned-second t),
+              far-straight (corner d c) (corner d k) (corner d j) (corner d z) (g .on) ck (turned-second t),
+              near-straight (corner d c) (corner d k) (corner d j) (corner d z) (g .on) ck (turned-second t),
             );
           })
             where
@@ -181,10 +174,7 @@ module _ {d : List ℤ} {C : Pairs} {f : ℕ} {s : List ℕ} {c : ℕ} (star : S
               apart = g .not-j
 
       -- ---- the last corner on the way
-      abbrev long : ℕ → ℕ
-      long m = natAbs (len2 (corner d m) (corner d j))
-
-      never : ((m : ℕ) → long m < long k → GrazedBy d c j m → ⊥) → ⊥
+      never : ((m : ℕ) → long d m j < long d k j → GrazedBy d c j m → ⊥) → ⊥
       never later =
           grazed-in star j k in-j g
           (in-line (strict-part (beside-or d k j)))
@@ -203,50 +193,27 @@ module _ {d : List ℤ} {C : Pairs} {f : ℕ} {s : List ℕ} {c : ℕ} (star : S
                     (corner d k) (corner d j) (g .on) (h .on);
               })
             where
-              km : ¬ (corner d k ≡ corner d m)
-              km = corners-apart d (star .sound .simple) k m (g .below) (h .below) (λ e. h .not-i (sym e))
-
-              mj : ¬ (corner d m ≡ corner d j)
-              mj = corners-apart d (star .sound .simple) m j (h .below) hj (h .not-j)
-
-              -- from j, m comes before k
-              from-j : natAbs (len2 (corner d j) (corner d m)) < natAbs (len2 (corner d j) (corner d k))
-              from-j =
-                  shorter (corner d j) (corner d m) (corner d k) (on-turn (h .on)) (λ e. mj (sym e)) (λ e. km (sym e))
-
-              shorter-way : long m < long k
-              shorter-way =
-                  subst (λ z. natAbs z < long k) (length-turned (corner d j) (corner d m))
-                  (subst (λ z. natAbs (len2 (corner d j) (corner d m)) < natAbs z)
-                  (length-turned (corner d j) (corner d k))
-                  from-j)
+              -- m is nearer to j than k is, and k nearer than c
+              shorter-way : long d m j < long d k j
+              shorter-way = second-shorter d (star .sound .simple) k j m (g .below) hj h
 
               not-c : ¬ (m ≡ c)
               not-c e =
                   omega (
                     arith,
-                    subst (λ i. natAbs (len2 (corner d j) (corner d i)) < natAbs (len2 (corner d j) (corner d k))) e
-                        from-j,
-                    shorter (corner d j) (corner d k) (corner d c) (on-turn (g .on)) (λ q. kj (sym q))
-                        (λ q. ck (sym q)),
+                    subst (λ i. long d i j < long d k j) e shorter-way,
+                    second-shorter d (star .sound .simple) c j k (centre-below star) hj g,
                   )
 
-          free : (m : ℕ) → m < corners d → FreeOf d k j m
-          free m hm = record {
-            uncrossed = sees-clear d (star .sound .simple) k j (g .below) hj (g .not-j) part m hm;
-            no-third = λ o. only o (ℕ-discrete m k) (ℕ-discrete m j);
-          }
-            where
-              only : On (corner d m) (corner d k) (corner d j) → Dec (m ≡ k) → Dec (m ≡ j) → (m ≡ k) ⊎ (m ≡ j)
-              only o (yes e) q = inl e
-              only o (no p) (yes e) = inr e
-              only o (no p) (no q) = absurd (third m (record { below = hm; not-i = p; not-j = q; on = o }))
+          free : Free d k j
+          free m hm =
+              free-of d k j m hm (sees-clear d (star .sound .simple) k j (g .below) hj (g .not-j) part m hm) (third m)
 
           strict-part : Beside d k j ⊎ (¬ Beside d k j) → Sees d k j
           strict-part (inl b) = record { sees = inl b }
           strict-part (inr n) = free-kinds d (star .sound) k j (g .below) hj n free .0 part
 
-    down : (j : ℕ) → In j (f ∷ s) → ¬ (c ≡ j) → (most k : ℕ) → natAbs (len2 (corner d k) (corner d j)) < most →
+    down : (j : ℕ) → In j (f ∷ s) → ¬ (c ≡ j) → (most k : ℕ) → long d k j < most →
         GrazedBy d c j k → ⊥
     down j i cj zero k h g = omega arith
     down j i cj (suc most) k h g = never j k i cj g (λ m less. down j i cj most m (omega arith))
@@ -255,5 +222,5 @@ module _ {d : List ℤ} {C : Pairs} {f : ℕ} {s : List ℕ} {c : ℕ} (star : S
     pub spoke-clear : (j : ℕ) → In j (f ∷ s) → ¬ (c ≡ j) → (k : ℕ) → k < corners d → ¬ (k ≡ c) → ¬ (k ≡ j) →
         ¬ On (corner d k) (corner d c) (corner d j)
     spoke-clear j i cj k hk kc kj o =
-        down j i cj (suc (natAbs (len2 (corner d k) (corner d j)))) k (omega arith)
+        down j i cj (suc (long d k j)) k (omega arith)
         (record { below = hk; not-i = kc; not-j = kj; on = o })

@@ -15,13 +15,13 @@ use Rattle.outline.specs.Drawing.{Shared, Sound, corner, corners, Sees}
 use Rattle.outline.specs.InOrOn.{CentreSees}
 use Rattle.outline.specs.Segments.{turned-first}
 use Rattle.outline.specs.Unbroken.{none-between}
-use Rattle.outline.specs.Placed.{on-turn, touch-meets, on-start}
+use Rattle.outline.specs.Placed.{on-turn, on-start, touch-meets, on-segment}
 use Rattle.outline.specs.Along.{apart-length}
 use Rattle.outline.specs.CornersApart.{corners-apart}
 use Rattle.outline.specs.CentreParts.{sees-parts}
 use Rattle.outline.specs.CentreSight.{centre-mutual}
 use Rattle.outline.specs.Way.{GrazedBy}
-use Rattle.outline.specs.Squeezed.{squeezed, on-segment}
+use Rattle.outline.specs.Squeezed.{squeezed}
 use Rattle.outline.specs.Across.{centre-across}
 use Rattle.rules.specs.Lists.{In}
 use Rattle.rules.specs.Cutting.{Pairs, Joined, Inside, Outside, Near, Region}

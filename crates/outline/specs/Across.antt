@@ -5,26 +5,25 @@
 --       x ---|--- y    is none. Of the parts ik and kj, one has its ends on both sides of xy.
 --            k
 --            i
-use mathlib.Core.Path.{_≡_, sym, subst}
+use mathlib.Core.Path.{_≡_, subst}
 use mathlib.Core.Logic.{_⊎_, inl, inr, by-cases}
 use mathlib.Core.List.{List}
 use Prim.Native.Nat.{ℕ, zero, suc, _<_}
 use native.Mathlib.Omega.{arith}
 use native.Mathlib.Decide.{ℕ-discrete, decLt}
-use lib.IntN.{ℤ, natAbs}
+use lib.IntN.{ℤ}
 use Rattle.outline.specs.Drawing.{Shared, Sound, corner, corners, after, Beside, Sees}
 use Rattle.outline.specs.InOrOn.{CentreSees}
 use Rattle.outline.specs.Segments.{exchanged, turned-second}
 use Rattle.outline.specs.Round.{next-inner, next-last}
 use Rattle.outline.specs.Seeing.{sees-mutual}
-use Rattle.outline.specs.Placed.{On, on-turn, touch-meets}
-use Rattle.outline.specs.Along.{len2}
-use Rattle.outline.specs.CornersApart.{corners-apart}
+use Rattle.outline.specs.Placed.{On, touch-meets}
 use Rattle.outline.specs.CentreParts.{sees-parts}
 use Rattle.outline.specs.CentreMiddle.{sees-clear}
-use Rattle.outline.specs.Way.{GrazedBy, FreeOf}
+use Rattle.outline.specs.Way.{GrazedBy, Free, free-of}
 use Rattle.outline.specs.TwoKinds.{free-kinds}
-use Rattle.outline.specs.Squeezed.{part-shared, first-shared, shorter, length-turned}
+use Rattle.outline.specs.Third.{long, first-shorter, second-shorter}
+use Rattle.outline.specs.Squeezed.{part-shared, first-shared}
 use Rattle.outline.specs.Interleaved.{interleaved-meet}
 
 -- ---- k is none of the corners from x to y
@@ -66,14 +65,10 @@ module _ (d : List ℤ) (sound : Sound d) (x y : ℕ) (xy : x < y) (hy : y < cor
       interleaved-meet d (sound .simple) j x i y jx xi iy hy
       (sees-mutual s) strict (λ t. never (exchanged t))
 
-  -- how long a segment is
-  abbrev long : ℕ → ℕ → ℕ
-  long i j = natAbs (len2 (corner d i) (corner d j))
-
   abbrev Across : ℕ → ℕ → Type 0
   Across i j = x < i → i < y → j < corners d → Beyond x y j → CentreSees d i j → ¬ ¬ Meet i j
 
-  by-parts : (i j : ℕ) → ((k l : ℕ) → long k l < long i j → Across k l) → Across i j
+  by-parts : (i j : ℕ) → ((k l : ℕ) → long d k l < long d i j → Across k l) → Across i j
   by-parts i j shorter-meet xi iy hj out s never =
       strict-across i j xi iy hj out
       (free-kinds d sound i j hi hj (no-neighbours i j xi iy hj out) free .0 s) never
@@ -91,25 +86,9 @@ module _ (d : List ℤ) (sound : Sound d) (x y : ℕ) (xy : x < y) (hy : y < cor
           parts : CentreSees d i k × CentreSees d k j
           parts = sees-parts d i j k (g .on) s
 
-          ik : ¬ (corner d i ≡ corner d k)
-          ik = corners-apart d (sound .simple) i k hi (g .below) (λ e. g .not-i (sym e))
-
-          kj : ¬ (corner d k ≡ corner d j)
-          kj = corners-apart d (sound .simple) k j (g .below) hj (g .not-j)
-
-          first-less : long i k < long i j
-          first-less = shorter (corner d i) (corner d k) (corner d j) (g .on) ik kj
-
-          second-less : long k j < long i j
-          second-less =
-              subst (λ z. natAbs z < long i j) (length-turned (corner d j) (corner d k))
-              (subst (λ z. natAbs (len2 (corner d j) (corner d k)) < natAbs z)
-              (length-turned (corner d j) (corner d i))
-              (shorter (corner d j) (corner d k) (corner d i) (on-turn (g .on)) (λ e. kj (sym e)) (λ e. ik (sym e))))
-
           to-k : Beyond x y k → ⊥
           to-k b =
-              shorter-meet i k first-less xi iy (g .below) b (parts .0)
+              shorter-meet i k (first-shorter d (sound .simple) i j k hi hj g) xi iy (g .below) b (parts .0)
               (λ t. never (first-shared (corner d i) (corner d k) (corner d j) (corner d x) (corner d y) (g .on) t))
 
           at : Dec (k ≡ x) → Dec (k ≡ y) → Dec (k < x) → Dec (y < k) → ⊥
@@ -122,25 +101,18 @@ module _ (d : List ℤ) (sound : Sound d) (x y : ℕ) (xy : x < y) (hy : y < cor
           at (no p) (no q) (yes r) t = to-k (inl r)
           at (no p) (no q) (no r) (yes t) = to-k (inr t)
           at (no p) (no q) (no r) (no t) =
-              shorter-meet k j second-less (omega (arith, p, r)) (omega (arith, q, t)) hj out (parts .1)
+              shorter-meet k j (second-shorter d (sound .simple) i j k hi hj g) (omega (arith, p, r))
+              (omega (arith, q, t)) hj out (parts .1)
               (λ m. never (part-shared (corner d i) (corner d k) (corner d j) (corner d x) (corner d y) (g .on) m))
 
-      free : (k : ℕ) → k < corners d → FreeOf d i j k
-      free k hk = record {
-        uncrossed = sees-clear d (sound .simple) i j hi hj ij s k hk;
-        no-third = λ o. only o (ℕ-discrete k i) (ℕ-discrete k j);
-      }
-        where
-          only : On (corner d k) (corner d i) (corner d j) → Dec (k ≡ i) → Dec (k ≡ j) → (k ≡ i) ⊎ (k ≡ j)
-          only o (yes e) q = inl e
-          only o (no p) (yes e) = inr e
-          only o (no p) (no q) = absurd (third k (record { below = hk; not-i = p; not-j = q; on = o }))
+      free : Free d i j
+      free k hk = free-of d i j k hk (sees-clear d (sound .simple) i j hi hj ij s k hk) (third k)
 
-  across : (most i j : ℕ) → long i j < most → Across i j
+  across : (most i j : ℕ) → long d i j < most → Across i j
   across zero i j h = absurd (omega arith)
   across (suc most) i j h = by-parts i j (λ k l less. across most k l (omega arith))
 
   -- ---- the statement
   pub centre-across : (i j : ℕ) → x < i → i < y → j < corners d → Beyond x y j → CentreSees d i j →
       ¬ ¬ Shared (corner d i) (corner d j) (corner d x) (corner d y)
-  centre-across i j = across (suc (long i j)) i j (omega arith)
+  centre-across i j = across (suc (long d i j)) i j (omega arith)

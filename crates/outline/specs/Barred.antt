@@ -6,20 +6,14 @@ use mathlib.Core.List.{List}
 use Prim.Native.Nat.{ℕ, _<_}
 use lib.IntN.{ℤ, pos}
 use Rattle.whole.specs.Order.{below}
-use Rattle.outline.specs.Drawing.{Point, Turn, Simple, corner, corners, after, EndsAt, Beside, Sees}
-use Rattle.outline.specs.InOrOn.{spot, OnSegment}
-use Rattle.outline.specs.OnSegment.{on-of}
+use Rattle.outline.specs.Drawing.{Turn, Simple, corner, corners, after, EndsAt, Beside, Sees}
 use Rattle.outline.specs.Segments.{Apart, apart-off, turn-start, turn-end}
 use Rattle.outline.specs.Round.{next-below}
 use Rattle.outline.specs.Seeing.{clear-sight}
 use Rattle.outline.specs.Unbroken.{none-between}
-use Rattle.outline.specs.Placed.{On, on-dot}
+use Rattle.outline.specs.Placed.{On, on-segment}
 use Rattle.outline.specs.Crossing.{Opposite}
 use Rattle.outline.specs.Way.{CrossedBy, GrazedBy}
-
--- a whole point on a segment, as 01 says it
-segment-of : {z a b : Point} → On z a b → OnSegment (spot z) a b
-segment-of o = on-of (o .line) (on-dot o)
 
 pub apart-of : {s t : ℤ} → Opposite s t → Apart s t
 apart-of (inl h) = inl (h .0, below (h .1))
@@ -32,7 +26,8 @@ module _ (d : List ℤ) (simple : Simple d) where
   off-side i k hi hk no-end o =
       none-between d simple k (after d k) i hk (next-below (corners d) k hk) hi
       (λ e. simple .two-ends k hk (ap (corner d) e))
-      (record { sees = inl (inr (inl refl)) }) (λ e. no-end (inl (sym e))) (λ e. no-end (inr (sym e))) (segment-of o)
+      (record { sees = inl (inr (inl refl)) }) (λ e. no-end (inl (sym e))) (λ e. no-end (inr (sym e)))
+      (on-segment (corner d i) (corner d k) (corner d (after d k)) o)
 
   module _ (i j : ℕ) (hi : i < corners d) (hj : j < corners d) (apart : ¬ Beside d i j) where
     -- the ends of a side across do not lie on the segment's line, so it ends at neither corner
@@ -50,4 +45,5 @@ module _ (d : List ℤ) (simple : Simple d) where
 
     pub grazed-unseen : (k : ℕ) → GrazedBy d i j k → ¬ Sees d i j
     grazed-unseen k g s =
-        none-between d simple i j k hi hj (g .below) (λ e. apart (inl e)) s (g .not-i) (g .not-j) (segment-of (g .on))
+        none-between d simple i j k hi hj (g .below) (λ e. apart (inl e)) s (g .not-i) (g .not-j)
+        (on-segment (corner d k) (corner d i) (corner d j) (g .on))

@@ -46,6 +46,9 @@ on-part z i k j o q =
         ring2 (z ∷ i ∷ k ∷ j ∷ fm ∷ fk ∷ gm ∷ gk ∷ []) (v 5 :* v 7 :* (v 0 :- v 1)) (v 4 :* v 6 :* (v 3 :- v 1))
         (v 7) (v 5 :* (v 0 :- v 1)) (v 4 :* (v 2 :- v 1)) (v 4) (v 7 :* (v 2 :- v 1)) (v 6 :* (v 3 :- v 1)) e f refl
 
+pub part-on : (z i k j : Point) → On k i j → On z k j → On z i j
+part-on z i k j q o = on-turn (on-part z j k i (on-turn o) (on-turn q))
+
 -- ---- what is on the whole is on one of the parts
 module _ (z i k j : Point) (o : On z i j) (q : On k i j) (ik : ¬ (i ≡ k)) (kj : ¬ (k ≡ j)) where
   -- with i and j one point, k would be that point too
@@ -97,8 +100,7 @@ module _ (d : List ℤ) (i j k : ℕ) (q : On (corner d k) (corner d i) (corner 
       second : Sight (round d) (corners d) (corner d k) (corner d j)
       second z r r+ o =
           sight-read d i j s z r r+
-          (on-turn (on-part z (out r (corner d j)) (out r (corner d k)) (out r (corner d i)) (on-turn o)
-          (on-turn (grown r r+))))
+          (part-on z (out r (corner d i)) (out r (corner d k)) (out r (corner d j)) (grown r r+) o)
 
   pub parts-see : ¬ (corner d i ≡ corner d k) → ¬ (corner d k ≡ corner d j) → CentreSees d i k → CentreSees d k j →
       CentreSees d i j

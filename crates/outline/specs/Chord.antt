@@ -23,16 +23,15 @@ use Rattle.outline.specs.Round.{next-inner}
 use Rattle.outline.specs.Seeing.{clear-sight}
 use Rattle.outline.specs.Placed.{On, on-turn}
 use Rattle.outline.specs.Along.{len2, apart-length}
-use Rattle.outline.specs.Reading.{round, round-inner}
-use Rattle.outline.specs.CornersApart.{corners-apart, simple-read}
+use Rattle.outline.specs.EveryPoint as closed-line
+use Rattle.outline.specs.EveryPoint.{AtEnd}
+use Rattle.outline.specs.CornersApart.{corners-apart, at-start, at-end, side-length, at-ends}
 use Rattle.outline.specs.Barred.{off-side, grazed-unseen}
 use Rattle.outline.specs.Value.{left}
 use Rattle.outline.specs.Directions.{Away, away-of, length-back}
-use Rattle.outline.specs.NearCorner.{Corner}
 use Rattle.outline.specs.CornerSides.{same-left}
+use Rattle.outline.specs.NearCorner.{Corner}
 use Rattle.outline.specs.AtCorner.{turns}
-use Rattle.outline.specs.Past.{at-start, at-end}
-use Rattle.outline.specs.EveryPoint as closed-line
 
 -- a sees a + m, with corners between the two (`wide`) and after them (`small`)
 pub record Chord (d : List ℤ) (a m : ℕ) : Type 0 where
@@ -93,9 +92,6 @@ module _ {d : List ℤ} {a m : ℕ} (chord : Chord d a m) where
       apart-length (corner d i) (corner d j)
       (corners-apart d (chord .simple) i j (omega (arith, hi, chord .small)) (omega (arith, hj, chord .small)) ne)
 
-  abbrev AtEnd : Point → Point → Point → Point → Type 0
-  AtEnd p q e f = (s : Shared p q e f) → (s .p ≡ pos 0) ⊎ (s .p ≡ s .r)
-
   -- a side of the drawing's, from a to b, against the line ab
   not-a : (k : ℕ) → a < k → k ≤ b → ¬ EndsAt d k a
   not-a k h g (inl e) = omega (arith, e, h)
@@ -128,8 +124,7 @@ module _ {d : List ℤ} {a m : ℕ} (chord : Chord d a m) where
   side-line k h g s = go (meets k h g)
     where
       len : Positive (len2 (corner d k) (corner d (after d k)))
-      len =
-          apart-length (corner d k) (corner d (after d k)) (chord .simple .two-ends k (omega (arith, g, chord .small)))
+      len = side-length d (chord .simple) k (omega (arith, g, chord .small))
 
       go : Meets k → (s .p ≡ pos 0) ⊎ (s .p ≡ s .r)
       go (none n) = absurd (n (turned-first (exchanged s)))
@@ -153,26 +148,16 @@ module _ {d : List ℤ} {a m : ℕ} (chord : Chord d a m) where
       go (only-a e o) = inr (at-end (corner d b) (corner d a) (s .p) (s .r) len (only-first o s))
       go (only-b e o) = inl (at-start (corner d b) (corner d a) (s .p) (s .r) len (only-first o s))
 
-  two-sides : (j k : ℕ) → j < b → k < b → ¬ (j ≡ k) →
-      AtEnd (corner d j) (corner d (after d j)) (corner d k) (corner d (after d k))
-  two-sides j k hj hk ne =
-      subst (λ z. AtEnd z (corner d (after d j)) (corner d k) (corner d (after d k)))
-      (round-inner d j (omega (arith, hj, chord .small)))
-      (subst (λ z. AtEnd (round d j) (corner d (after d j)) z (corner d (after d k)))
-      (round-inner d k (omega (arith, hk, chord .small)))
-      (simple-read d (chord .simple) .apart j k (omega (arith, hj, chord .small)) (omega (arith, hk, chord .small))
-      ne))
-
   pub simple-chain : closed-line.Simple c (suc m)
   simple-chain = record {
     ends = λ i h. side-of (λ j p q. Positive (len2 p q))
-        (λ k g f. apart-length (corner d k) (corner d (after d k))
-        (chord .simple .two-ends k (omega (arith, f, chord .small))))
+        (λ k g f. side-length d (chord .simple) k (omega (arith, f, chord .small)))
         (length-of b a (omega arith) (omega arith) (λ e. omega (arith, e, chord .wide))) i h;
     apart = λ i k hi hk ne. side-of
         (λ j p q. ¬ (j ≡ a + k) → AtEnd p q (c k) (c (suc k)))
         (λ j g f n. side-of (λ l p q. ¬ (j ≡ l) → AtEnd (corner d j) (corner d (after d j)) p q)
-        (λ l g′ f′. two-sides j l f f′) (λ n′. side-line j g f) k hk n)
+        (λ l g′ f′. at-ends d (chord .simple) j l (omega (arith, f, chord .small)) (omega (arith, f′, chord .small)))
+        (λ n′. side-line j g f) k hk n)
         (side-of (λ l p q. ¬ (b ≡ l) → AtEnd (corner d b) (corner d a) p q)
         (λ l g f n. line-side l g f) (λ n. absurd (n refl)) k hk)
         i hi (λ e. ne (omega (arith, e)));
@@ -187,9 +172,6 @@ module _ {d : List ℤ} {a m : ℕ} (chord : Chord d a m) where
       side-of (λ j p q. ¬ (j ≡ a + s) → ¬ (j ≡ suc (a + s)) → ¬ On (corner d (suc (a + s))) p q) sides line i hi
       (λ e. ns (omega (arith, e))) (λ e. nt (omega (arith, e))) (subst (λ z. On z (c i) (c (suc i))) (at-next s h) o)
     where
-      k : ℕ
-      k = suc (a + s)
-
       below : suc (a + s) < corners d
       below = omega (arith, h, chord .small)
 
@@ -211,9 +193,6 @@ module _ {d : List ℤ} {a m : ℕ} (chord : Chord d a m) where
   turns-at : (s : ℕ) → s < m → Away (c (suc s)) (c (suc (suc s))) (c s)
   turns-at s h = go (ℕ-discrete (suc s) m)
     where
-      k : ℕ
-      k = suc (a + s)
-
       below : suc (a + s) < corners d
       below = omega (arith, h, chord .small)
 
@@ -223,14 +202,11 @@ module _ {d : List ℤ} {a m : ℕ} (chord : Chord d a m) where
       go : Dec (suc s ≡ m) → Away (c (suc s)) (c (suc (suc s))) (c s)
       go (no ne) =
           subst (λ z. Away z (c (suc (suc s))) (c s)) (sym (at-next s h))
-          (subst (λ z. Away (corner d (suc (a + s))) z (c s)) next-is
+          (subst (λ z. Away (corner d (suc (a + s))) z (c s))
+          (ap (corner d) (after-is (suc (a + s)) (omega arith) ∙ omega arith) ∙ sym
+          (on-chain (suc (suc s)) (omega arith)))
           (subst (Away (corner d (suc (a + s))) (corner d (after d (suc (a + s))))) (sym at-s)
           (turns d (chord .simple) (suc (a + s)) below)))
-        where
-          next-is : corner d (after d (suc (a + s))) ≡ c (suc (suc s))
-          next-is =
-              ap (corner d) (after-is (suc (a + s)) (omega arith) ∙ omega arith)
-              ∙ sym (on-chain (suc (suc s)) (omega arith))
       go (yes e) =
           away-of (c (suc s)) (c (suc (suc s))) (c s) (simple-chain .ends (suc s) (omega arith))
           (length-back (c s) (c (suc s)) (simple-chain .ends s (omega arith)))
@@ -253,13 +229,13 @@ module _ {d : List ℤ} {a m : ℕ} (chord : Chord d a m) where
               (subst (λ z. SharedOnlyAt (corner d b) (corner d a) (corner d b) (corner d (a + s)) (corner d z)) f
               (clear .ends-at-j (a + s) (omega (arith, below)) (inr f)))))
 
-  pub corner-after : (s : ℕ) → s < m → Corner c (suc m) s (suc s)
-  corner-after s h = record {
+  pub corner-at : (s : ℕ) → s < m → Corner c (suc m) s (suc s)
+  corner-at s h = record {
     closed = closed;
     simple = simple-chain;
     s-below = omega arith;
     t-below = omega arith;
-    two = λ e. omega (arith, e);
+    two = λ q. omega arith;
     joined = refl;
     off-others = off s h;
     turns = turns-at s h;
@@ -272,4 +248,4 @@ module _ {d : List ℤ} {a m : ℕ} (chord : Chord d a m) where
   pub one-left : (p i : ℕ) → i + p ≡ m → left-of i ≡ left-of m
   one-left zero i e = ap left-of (omega arith)
   one-left (suc p) i e =
-      same-left c (suc m) i (suc i) (corner-after i (omega arith)) ∙ one-left p (suc i) (omega arith)
+      same-left c (suc m) i (suc i) (corner-at i (omega arith)) ∙ one-left p (suc i) (omega arith)

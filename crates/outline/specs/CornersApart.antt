@@ -19,22 +19,22 @@ use Rattle.outline.specs.Reading.{round, round-inner}
 
 -- ---- the place of a segment's end on it
 module _ (a b : Point) (p r : ℤ) (n+ : Positive (len2 a b)) where
-  at-end : IsAt b a b p r → p ≡ r
+  pub at-end : IsAt b a b p r → p ≡ r
   at-end o =
       diff-zero p r (zero-cancel n+ (ring2 (env a b a b p (pos 0) r) (DotE A B B :* (P :- R)) O
       (B .x :- A .x) ab-x (R :* B .x) (B .y :- A .y) ab-y (R :* B .y) (o .on-x) (o .on-y) refl))
 
-  at-start : IsAt a a b p r → p ≡ pos 0
+  pub at-start : IsAt a a b p r → p ≡ pos 0
   at-start o =
       zero-cancel n+ (ring2 (env a b a b p (pos 0) r) (DotE A B B :* P) O
       (B .x :- A .x) ab-x (R :* A .x) (B .y :- A .y) ab-y (R :* A .y) (o .on-x) (o .on-y) refl)
 
 module _ (d : List ℤ) (simple : Simple d) where
-  side-length : (k : ℕ) → k < corners d → Positive (len2 (corner d k) (corner d (after d k)))
+  pub side-length : (k : ℕ) → k < corners d → Positive (len2 (corner d k) (corner d (after d k)))
   side-length k h = apart-length (corner d k) (corner d (after d k)) (simple .two-ends k h)
 
   -- ---- what two sides share is an end
-  at-ends : (m k : ℕ) → m < corners d → k < corners d → ¬ (m ≡ k) →
+  pub at-ends : (m k : ℕ) → m < corners d → k < corners d → ¬ (m ≡ k) →
       AtEnd (corner d m) (corner d (after d m)) (corner d k) (corner d (after d k))
   at-ends m k hm hk ne = go (ℕ-discrete (after d m) k) (ℕ-discrete (after d k) m)
     where

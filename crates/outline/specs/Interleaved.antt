@@ -39,9 +39,6 @@ module _ {d : List ℤ} {a m : ℕ} (chord : Chord d a m) where
   -- ---- a corner of the chain that sees w has w on the side of its angle
   module _ (w : ℕ) (bw : b < w) (wn : w < corners d) (s : ℕ) (hs : suc s < m) (sees-w : Sees d (suc (a + s)) w)
       (never : ¬ Shared (corner d (suc (a + s))) (corner d w) (corner d b) (corner d a)) where
-    abbrev u : ℕ
-    u = suc (a + s)
-
     hu : suc (a + s) < corners d
     hu = omega (arith, hs, chord .small)
 

@@ -8,14 +8,12 @@
 use mathlib.Core.Path.{_≡_, refl, sym, _∙_, ap, subst}
 use mathlib.Core.Bool.{not}
 use mathlib.Core.Logic.{inl, inr}
-use mathlib.Core.List.{List, [], _∷_}
+use mathlib.Core.List.{List}
 use Prim.Native.Nat.{ℕ, zero, suc, _+_, _<_, _≤_}
 use native.Mathlib.Omega.{arith}
 use native.Mathlib.Decide.{ℕ-discrete}
-use lib.IntN.{ℤ, pos, negℤ}
-use lib.Signed.{_<ℤ_}
-use Rattle.whole.specs.Ring.{v, con, _:-_, neg, by-ring}
-use Rattle.whole.specs.Order.{Positive, sub-lt, <ℤ-le}
+use lib.IntN.{ℤ}
+use Rattle.whole.specs.Order.{Positive, below, <ℤ-le}
 use Rattle.outline.specs.Drawing.{Point, Shared, SharedOnlyAt, InsideAngle, corner, corners, after, prev, EndsAt}
 use Rattle.outline.specs.Segments.{exchanged, turned-first, only-exchanged, only-first}
 use Rattle.outline.specs.Ends.{OnlyEnd, only-complete}
@@ -127,17 +125,13 @@ module _ {d : List ℤ} {a m : ℕ} (chord : Chord d a m) where
             (subst (OnlyEnd (corner d b) J) (sym at-a) (only-complete line-only))
 
         last-only : OnlyEnd (c (suc s)) J (c s)
-        last-only t = <ℤ-le (negative (away t))
+        last-only t = <ℤ-le (below (away t))
           where
             away : Away (c (suc s)) J (c s)
             away =
                 subst (λ z. Away z J (c s)) (sym at-b)
                 (subst (λ z. Away (corner d b) z (c s)) (ap (corner d) next-b)
                 (subst (Away (corner d b) (corner d (after d b))) (sym at-p) (turns d (chord .simple) b hb)))
-
-            negative : {z : ℤ} → Positive (negℤ z) → z <ℤ pos 0
-            negative {z} h =
-                sub-lt (by-ring (z ∷ []) Positive (neg (v 0)) (con (pos 0) :- v 0) refl h)
 
         free : (i : ℕ) → i < suc m → Past (c (suc s)) J (c i) (c (suc i)) → ⊥
         free i hi t =

@@ -134,7 +134,7 @@ pub mod Third
 -- a point of a segment, and what its parts share with another
 pub mod Squeezed
 pub mod Straight
--- the corners on one side of a line of strict sight are an outline of their own; those on the other side are outside it
+-- the corners on one side of a line of strict sight are an outline of their own; those on the other side are outside
 pub mod Past
 pub mod Parted
 pub mod Chord

@@ -1,12 +1,11 @@
 -- From a corner of the chain of a chord towards a point J: where no side of the chain is met on the way, J has the
 -- value left of its sides exactly when it lies inside the corner's angle.
-use mathlib.Core.Path.{_≡_, refl, sym, _∙_, ap, subst}
-use mathlib.Core.List.{List, [], _∷_}
+use mathlib.Core.Path.{_≡_, sym, _∙_, ap, subst}
+use mathlib.Core.List.{List}
 use Prim.Native.Nat.{ℕ, suc, _+_, _<_}
 use native.Mathlib.Omega.{arith}
 use lib.IntN.{ℤ, pos, _-ℤ_}
-use Rattle.whole.specs.Ring.{v, con, _:+_, _:-_, by-ring}
-use Rattle.whole.specs.Order.{Positive, nonneg-pos, positive-add}
+use Rattle.whole.specs.Order.{Positive}
 use Rattle.outline.specs.Drawing.{Point, InsideAngle, corner}
 use Rattle.outline.specs.Ends.{OnlyEnd}
 use Rattle.outline.specs.Parity.{odd, out, large}
@@ -16,8 +15,9 @@ use Rattle.outline.specs.Along.{len2, apart-length}
 use Rattle.outline.specs.Near.{near}
 use Rattle.outline.specs.CornerTells.{Verdict, Close, corner-tells}
 use Rattle.outline.specs.Directions.{away-of, length-back}
+use Rattle.outline.specs.Ray.{above-one}
 use Rattle.outline.specs.Past.{Past, past}
-use Rattle.outline.specs.Chord.{Chord, chain, closed, simple-chain, at-next, corner-after, left-of}
+use Rattle.outline.specs.Chord.{Chord, chain, closed, simple-chain, at-next, corner-at, left-of}
 
 module _ {d : List ℤ} {a m : ℕ} (chord : Chord d a m) where
   abbrev c : ℕ → Point
@@ -31,8 +31,9 @@ module _ {d : List ℤ} {a m : ℕ} (chord : Chord d a m) where
 
     tells : Close c (suc m) (left-of chord (suc s)) (c s) (c (suc s)) (c (suc (suc s))) J
     tells =
-        corner-tells c (suc m) s (suc s) (corner-after chord s hs) J len-J
-        (away-of (c (suc s)) J (c (suc (suc s))) len-J (simple-chain chord .ends (suc s) (omega arith)) only-next)
+        corner-tells c (suc m) s (suc s) (corner-at chord s hs) J len-J
+        (away-of (c (suc s)) J (c (suc (suc s))) len-J (simple-chain chord .ends (suc s) (omega arith))
+        only-next)
         (away-of (c (suc s)) J (c s) len-J
         (length-back (c s) (c (suc s)) (simple-chain chord .ends s (omega arith))) only-last)
 
@@ -40,9 +41,7 @@ module _ {d : List ℤ} {a m : ℕ} (chord : Chord d a m) where
     arrives K big =
         same-parity (large K c) (suc m) (ap (out K) (closed chord)) (near (c (suc s)) K J) (out K J)
         (λ i h t. free i h (past (c (suc s)) J (c i) (c (suc i)) K big t))
-        ∙ odd-scale c K J
-        (by-ring (K ∷ []) Positive (v 0 :- con (pos 1) :+ con (pos 1)) (v 0) refl (positive-add big (nonneg-pos 1)))
-        (suc m)
+        ∙ odd-scale c K J (above-one K big) (suc m)
 
     pub value-at :
         Verdict (left-of chord (suc s)) (InsideAngle (c s) (c (suc s)) (c (suc (suc s))) J) (odd c J (suc m))

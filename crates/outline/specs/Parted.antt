@@ -5,22 +5,21 @@
 --        W --- j  the angle from j round to p.
 --        |
 --        p
-use mathlib.Core.Path.{_≡_, refl, sym, subst}
+use mathlib.Core.Path.{refl, sym, subst}
 use mathlib.Core.Logic.{_⊎_, inl, inr}
-use mathlib.Core.List.{[], _∷_}
 use lib.IntN.{ℤ, pos}
 use lib.Signed.{_≤ℤ_, _<ℤ_, clashℤ}
-use Rattle.whole.specs.Ring.{v, con, _:-_, _:*_, neg, ring, by-ring}
+use Rattle.whole.specs.Ring.{_:-_, neg, by-ring}
 use Rattle.whole.specs.Order.{Nonneg, positive-not, le-sub, <ℤ-le, ≤ℤ-total}
 use Rattle.outline.specs.Drawing.{Point, Turn, InsideAngle}
+use Rattle.outline.specs.Spell.{A, B, C, O, env4, TurnE}
+use Rattle.outline.specs.Directions.{turn-at}
 
 module _ (p W e j : Point) where
   neg-turn : (a b : Point) → pos 0 ≤ℤ Turn W a b → pos 0 <ℤ Turn W b a → ⊥
   neg-turn a b h k =
       positive-not k
-      (by-ring (W .x ∷ W .y ∷ a .x ∷ a .y ∷ b .x ∷ b .y ∷ []) Nonneg
-      ((v 2 :- v 0) :* (v 5 :- v 1) :- (v 3 :- v 1) :* (v 4 :- v 0))
-      (neg ((v 4 :- v 0) :* (v 3 :- v 1) :- (v 5 :- v 1) :* (v 2 :- v 0))) refl h)
+      (by-ring (env4 W a b b) Nonneg (TurnE A B C) (neg (TurnE A C B)) refl h)
 
   pub parted : InsideAngle p W e j → InsideAngle p W j e → ⊥
   parted i k = go (≤ℤ-total (Turn p W e) (pos 0)) (≤ℤ-total (Turn p W j) (pos 0))
@@ -28,24 +27,15 @@ module _ (p W e j : Point) where
       no : {z : ℤ} → z ≤ℤ pos 0 → ¬ (pos 0 <ℤ z)
       no h g = clashℤ g h
 
-      -- Turn p W z, seen from W
-      from-W : (z : Point) → Turn p W z ≡ Turn W z p
-      from-W z =
-          ring (W .x ∷ W .y ∷ p .x ∷ p .y ∷ z .x ∷ z .y ∷ [])
-          ((v 0 :- v 2) :* (v 5 :- v 3) :- (v 1 :- v 3) :* (v 4 :- v 2))
-          ((v 4 :- v 0) :* (v 3 :- v 1) :- (v 5 :- v 1) :* (v 2 :- v 0)) refl
-
       -- Turn W p z where Turn p W z is not above nought
       back : (z : Point) → Turn p W z ≤ℤ pos 0 → pos 0 ≤ℤ Turn W p z
       back z h =
-          by-ring (W .x ∷ W .y ∷ p .x ∷ p .y ∷ z .x ∷ z .y ∷ []) Nonneg
-          (con (pos 0) :- ((v 0 :- v 2) :* (v 5 :- v 3) :- (v 1 :- v 3) :* (v 4 :- v 2)))
-          ((v 2 :- v 0) :* (v 5 :- v 1) :- (v 3 :- v 1) :* (v 4 :- v 0)) refl (le-sub h)
+          by-ring (env4 W p z z) Nonneg (O :- TurnE B A C) (TurnE A B C) refl (le-sub h)
 
       go : (Turn p W e ≤ℤ pos 0) ⊎ (pos 0 <ℤ Turn p W e) → (Turn p W j ≤ℤ pos 0) ⊎ (pos 0 <ℤ Turn p W j) → ⊥
-      go (inr h) (inl g) = no g (subst (λ z. pos 0 <ℤ z) (sym (from-W j)) (i .left h .1))
+      go (inr h) (inl g) = no g (subst (λ z. pos 0 <ℤ z) (sym (turn-at W p j)) (i .left h .1))
       go (inr h) (inr g) = neg-turn e j (<ℤ-le (i .left h .0)) (k .left g .0)
-      go (inl h) (inr g) = no h (subst (λ z. pos 0 <ℤ z) (sym (from-W e)) (k .left g .1))
+      go (inl h) (inr g) = no h (subst (λ z. pos 0 <ℤ z) (sym (turn-at W p e)) (k .left g .1))
       go (inl h) (inl g) = at (≤ℤ-total (pos 0) (Turn W e j))
         where
           at : (pos 0 ≤ℤ Turn W e j) ⊎ (Turn W e j <ℤ pos 0) → ⊥
@@ -53,7 +43,5 @@ module _ (p W e j : Point) where
           at (inr x) =
               i .other (no h) (
                 back j g,
-                by-ring (W .x ∷ W .y ∷ e .x ∷ e .y ∷ j .x ∷ j .y ∷ []) Nonneg
-                    (con (pos 0) :- ((v 2 :- v 0) :* (v 5 :- v 1) :- (v 3 :- v 1) :* (v 4 :- v 0)))
-                    ((v 4 :- v 0) :* (v 3 :- v 1) :- (v 5 :- v 1) :* (v 2 :- v 0)) refl (le-sub (<ℤ-le x)),
+                by-ring (env4 W e j j) Nonneg (O :- TurnE A B C) (TurnE A C B) refl (le-sub (<ℤ-le x)),
               )

@@ -115,11 +115,17 @@ segment-frac {z} {u} {w} o =
           (o .on-y) refl;
     }
 
+pub segment-on : (z u w : Point) → OnSegment (spot z) u w → On z u w
+segment-on z u w o = on-of (segment-frac o)
+
+pub on-segment : (z u w : Point) → On z u w → OnSegment (spot z) u w
+on-segment z u w o = segment.on-of (o .line) (on-dot o)
+
 pub frac-of : (z u w : Point) → On z u w → Frac z u w
-frac-of z u w o = segment-frac (segment.on-of (o .line) (on-dot o))
+frac-of z u w o = segment-frac (on-segment z u w o)
 
 pub dot-on : {z u w : Point} → Turn u w z ≡ pos 0 → Dot z u w ≤ℤ pos 0 → On z u w
-dot-on e h = on-of (segment-frac (segment.on-of e h))
+dot-on {z} {u} {w} e h = segment-on z u w (segment.on-of e h)
 
 -- ---- the segment turned round
 btw-turn : {u x w : ℤ} → Btw u x w → Btw w x u

@@ -1,90 +1,63 @@
--- A point k of the segment ij that is neither end: a segment from i that meets kj goes along ij.
+-- A point k of the segment ij that is not i: a segment from i that meets kj goes along ij.
 --
 --      i -------- k -------- j
 --         .  .  .  .  s           i, k, j and s are in one line
 use mathlib.Core.Path.{_≡_, refl, sym, _∙_, ap, subst}
 use mathlib.Core.List.{List, [], _∷_}
-use lib.IntN.{ℤ, pos, _*ℤ_}
-use lib.Signed.{<ℤ-irrefl}
-use Rattle.whole.specs.Ring.{E, v, con, _:+_, _:-_, _:*_, neg, ring, ring1, ring2, by-ring}
-use Rattle.whole.specs.Order.{Nonneg, Positive, nonneg-add, nonneg-mul, positive-add, positive-not, positive-pred}
-use Rattle.whole.specs.Order.{zero-cancel, le-sub, lt-sub, Sign, plus, nought, minus, sign}
+use lib.IntN.{ℤ, pos, _*ℤ_, *ℤ-zero}
+use lib.Signed.{<ℤ-≤ℤ-trans}
+use Rattle.whole.specs.Ring.{v, _:+_, _:-_, _:*_, neg, ring, ring1, ring2, by-ring}
+use Rattle.whole.specs.Order.{Positive, nonneg-add, nonneg-mul, positive-add, positive-pred, zero-cancel, le-sub}
+use Rattle.whole.specs.Order.{≤ℤ-strict}
 use Rattle.outline.specs.Drawing.{Point, Shared, Turn}
-use Rattle.outline.specs.Placed.{On, Frac, frac-of, on-turn}
-use Rattle.outline.specs.Along.{len2, along}
-use Rattle.outline.specs.CentreParts.{apart, before-j}
+use Rattle.outline.specs.Spell.{A, B, C, D, P, Q, R, O, I, env, TurnE, DotE, ab-x, ab-y, cd-x, cd-y}
+use Rattle.outline.specs.Placed.{On, Frac, frac-of, on-dot}
+use Rattle.outline.specs.Along.{len2, along, along-high, apart-length}
+use Rattle.outline.specs.Compare.{plus-off}
 
-module _ (i k j s : Point) (o : On k i j) (ik : ¬ (i ≡ k)) (kj : ¬ (k ≡ j)) (t : Shared i s k j) where
+-- i, s, k and j are A to D
+module _ (i k j s : Point) (o : On k i j) (ik : ¬ (i ≡ k)) (t : Shared i s k j) where
   abbrev ρ : List ℤ
-  ρ = i .x ∷ i .y ∷ k .x ∷ k .y ∷ j .x ∷ j .y ∷ s .x ∷ s .y ∷ t .p ∷ t .q ∷ t .r ∷ []
+  ρ = env i s k j (t .p) (t .q) (t .r)
 
-  -- along ij, from i
-  abbrev AlongE : E → E → E
-  AlongE x y = (x :- v 0) :* (v 4 :- v 0) :+ (y :- v 1) :* (v 5 :- v 1)
-
-  abbrev TurnE : E → E → E → E → E
-  TurnE ax ay bx by = (ax :- v 0) :* (by :- v 1) :- (ay :- v 1) :* (bx :- v 0)
-
-  abbrev Lx : E
-  Lx = v 10 :* v 0 :+ v 8 :* (v 6 :- v 0)
-
-  abbrev Rx : E
-  Rx = v 10 :* v 2 :+ v 9 :* (v 4 :- v 2)
-
-  abbrev Ly : E
-  Ly = v 10 :* v 1 :+ v 8 :* (v 7 :- v 1)
-
-  abbrev Ry : E
-  Ry = v 10 :* v 3 :+ v 9 :* (v 5 :- v 3)
-
-  whole : Positive (len2 i j)
-  whole = apart k i k j o o ik kj
-
-  -- k is past i
+  -- k is past i, and so is j
   past-i : Positive (along i j k)
   past-i =
-      by-ring (i .x ∷ i .y ∷ k .x ∷ k .y ∷ j .x ∷ j .y ∷ []) Positive
-      ((v 0 :- v 4) :* (v 0 :- v 4) :+ (v 1 :- v 5) :* (v 1 :- v 5)
-      :- ((v 2 :- v 4) :* (v 0 :- v 4) :+ (v 3 :- v 5) :* (v 1 :- v 5)))
-      ((v 2 :- v 0) :* (v 4 :- v 0) :+ (v 3 :- v 1) :* (v 5 :- v 1)) refl
-      (lt-sub (before-j k j k i (on-turn o) (on-turn o) (λ e. kj (sym e)) (λ e. ik (sym e))))
+      by-ring ρ Positive (DotE A C C :+ (O :- DotE C A D)) (DotE A C D) refl
+      (positive-add (apart-length i k ik) (le-sub (on-dot o)))
+
+  whole : Positive (len2 i j)
+  whole = <ℤ-≤ℤ-trans past-i (along-high k i j o)
 
   -- so the shared point is not i
   some : Positive (t .p *ℤ along i j s)
   some =
       subst Positive
-      (ring2 ρ (v 10 :+ ((v 10 :- v 9) :* (AlongE (v 2) (v 3) :- con (pos 1)) :+ v 9 :*
-      (AlongE (v 4) (v 5) :- con (pos 1))))
-      (v 8 :* AlongE (v 6) (v 7)) (neg (v 4 :- v 0)) Lx Rx (neg (v 5 :- v 1)) Ly Ry (t .same-x) (t .same-y) refl)
+      (ring2 ρ (R :+ ((R :- Q) :* (DotE A C D :- I) :+ Q :* (DotE A D D :- I))) (P :* DotE A B D)
+      (neg (D .x :- A .x)) ab-x cd-x (neg (D .y :- A .y)) ab-y cd-y (t .same-x) (t .same-y) refl)
       (positive-add (t .r-above) (nonneg-add (nonneg-mul (le-sub (t .q-to)) (positive-pred past-i))
       (nonneg-mul (t .q-from) (positive-pred whole))))
 
   p-some : Positive (t .p)
-  p-some = at (sign (t .p))
-    where
-      at : Sign (t .p) → Positive (t .p)
-      at (plus h) = h
-      at (nought e) =
-          absurd (<ℤ-irrefl (subst Positive (ap (λ z. z *ℤ along i j s) e
-          ∙ ring (along i j s ∷ []) (con (pos 0) :* v 0) (con (pos 0)) refl) some))
-      at (minus h) = positive-not h (by-ring (t .p ∷ []) Nonneg (v 0) (neg (neg (v 0))) refl (t .p-from))
+  p-some =
+      ≤ℤ-strict (t .p-from)
+      (λ e. plus-off some
+      (ap (λ z. z *ℤ along i j s) (sym e) ∙ ring (along i j s ∷ []) (O :* v 0) O refl))
 
   pub far-straight : Turn i j s ≡ pos 0
   far-straight =
       zero-cancel p-some
-      (ring2 ρ (v 8 :* TurnE (v 4) (v 5) (v 6) (v 7)) ((v 10 :- v 9) :* TurnE (v 4) (v 5) (v 2) (v 3))
-      (v 4 :- v 0) Ly Ry (neg (v 5 :- v 1)) Lx Rx (t .same-y) (t .same-x) refl
-      ∙ ring1 ρ ((v 10 :- v 9) :* TurnE (v 4) (v 5) (v 2) (v 3)) (con (pos 0)) (v 10 :- v 9)
-      (TurnE (v 4) (v 5) (v 2) (v 3)) (con (pos 0)) (o .line) refl)
+      (ring2 ρ (P :* TurnE A D B) ((R :- Q) :* TurnE A D C) (D .x :- A .x) ab-y cd-y (neg (D .y :- A .y)) ab-x cd-x
+      (t .same-y) (t .same-x) refl
+      ∙ ring1 ρ ((R :- Q) :* TurnE A D C) O (R :- Q) (TurnE A D C) O (o .line) refl)
 
   pub near-straight : Turn i k s ≡ pos 0
   near-straight =
       zero-cancel (f .k+)
-      (ring2 (i .x ∷ i .y ∷ k .x ∷ k .y ∷ j .x ∷ j .y ∷ s .x ∷ s .y ∷ f .m ∷ f .k ∷ [])
-      (v 9 :* TurnE (v 2) (v 3) (v 6) (v 7)) (v 8 :* TurnE (v 4) (v 5) (v 6) (v 7))
-      (v 7 :- v 1) (v 9 :* (v 2 :- v 0)) (v 8 :* (v 4 :- v 0))
-      (neg (v 6 :- v 0)) (v 9 :* (v 3 :- v 1)) (v 8 :* (v 5 :- v 1)) (f .fx) (f .fy) refl
-      ∙ ap (λ z. f .m *ℤ z) far-straight ∙ ring (f .m ∷ []) (v 0 :* con (pos 0)) (con (pos 0)) refl)
+      (ring2 (env i s k j (f .m) (f .k) (pos 0)) (Q :* TurnE A C B) (P :* TurnE A D B)
+      (B .y :- A .y) (Q :* (C .x :- A .x)) (P :* (D .x :- A .x))
+      (neg (B .x :- A .x)) (Q :* (C .y :- A .y)) (P :* (D .y :- A .y)) (f .fx) (f .fy) refl
+      ∙ ap (λ z. f .m *ℤ z) far-straight ∙ *ℤ-zero (f .m))
     where
       f : Frac k i j
       f = frac-of k i j o

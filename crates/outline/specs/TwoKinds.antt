@@ -5,17 +5,15 @@ use mathlib.Core.Bool.{Bool, true, false≢true}
 use mathlib.Core.Logic.{_⊎_, inl, inr, _↔_}
 use mathlib.Core.List.{List}
 use Prim.Native.Nat.{ℕ, _<_}
-use native.Mathlib.Decide.{ℕ-discrete}
 use lib.IntN.{ℤ, pos, +ℤ-comm}
 use Rattle.outline.specs.Drawing.{Sound, corner, corners, Angle, Beside, Sees}
 use Rattle.outline.specs.InOrOn.{CentreSees}
 use Rattle.outline.specs.Seeing.{Passes, passes-back, beside-back, beside-or}
-use Rattle.outline.specs.Placed.{On}
 use Rattle.outline.specs.Parity.{pt, odd, large}
 use Rattle.outline.specs.Reading.{round}
 use Rattle.outline.specs.CentreMiddle.{middle-enough, sees-middle}
 use Rattle.outline.specs.CentreSight.{centre-beside}
-use Rattle.outline.specs.Way.{Free}
+use Rattle.outline.specs.Way.{Free, free-of}
 use Rattle.outline.specs.Barred.{crossed-unseen, grazed-unseen}
 use Rattle.outline.specs.FreeSight.{free-passes, free-sight}
 use Rattle.outline.specs.CornerTells.{Verdict, within, without}
@@ -73,17 +71,9 @@ module _ (d : List ℤ) (sound : Sound d) where
   module _ (i j : ℕ) (hi : i < corners d) (hj : j < corners d) (s : Sees d i j) where
     -- nothing stands between two corners that see each other and are not neighbours
     sees-free : ¬ Beside d i j → Free d i j
-    sees-free apart k hk = record {
-      uncrossed = λ x. crossed-unseen d (sound .simple) i j hi hj apart k hk x s;
-      no-third = λ o. third o (ℕ-discrete k i) (ℕ-discrete k j);
-    }
-      where
-        third : On (corner d k) (corner d i) (corner d j) → Dec (k ≡ i) → Dec (k ≡ j) → (k ≡ i) ⊎ (k ≡ j)
-        third o (yes e) f = inl e
-        third o (no e) (yes f) = inr f
-        third o (no e) (no f) =
-            absurd (grazed-unseen d (sound .simple) i j hi hj apart k
-            (record { below = hk; not-i = e; not-j = f; on = o }) s)
+    sees-free apart k hk =
+        free-of d i j k hk (λ x. crossed-unseen d (sound .simple) i j hi hj apart k hk x s)
+        (λ g. grazed-unseen d (sound .simple) i j hi hj apart k g s)
 
     pub strict-centre : CentreSees d i j
     strict-centre = go (beside-or d i j)

@@ -5,9 +5,10 @@
 --    i ---/--- j      i ---/ \--- j
 --        / side k         /   \
 use mathlib.Core.Path.{_≡_}
-use mathlib.Core.Logic.{_⊎_}
+use mathlib.Core.Logic.{_⊎_, inl, inr}
 use mathlib.Core.List.{List}
 use Prim.Native.Nat.{ℕ, _<_}
+use native.Mathlib.Decide.{ℕ-discrete}
 use lib.IntN.{ℤ}
 use Rattle.outline.specs.Drawing.{corner, corners, after}
 use Rattle.outline.specs.Placed.{On}
@@ -29,6 +30,16 @@ module _ (d : List ℤ) (i j : ℕ) where
   pub record FreeOf (k : ℕ) : Type 0 where
     pub uncrossed : ¬ CrossedBy k
     pub no-third : On (corner d k) (corner d i) (corner d j) → (k ≡ i) ⊎ (k ≡ j)
+
+  -- no side k across, and no third corner k
+  pub free-of : (k : ℕ) → k < corners d → ¬ CrossedBy k → ¬ GrazedBy k → FreeOf k
+  free-of k hk uncrossed ungrazed =
+      record { uncrossed = uncrossed; no-third = λ o. only o (ℕ-discrete k i) (ℕ-discrete k j) }
+    where
+      only : On (corner d k) (corner d i) (corner d j) → Dec (k ≡ i) → Dec (k ≡ j) → (k ≡ i) ⊎ (k ≡ j)
+      only o (yes e) f = inl e
+      only o (no e) (yes f) = inr f
+      only o (no e) (no f) = absurd (ungrazed (record { below = hk; not-i = e; not-j = f; on = o }))
 
   -- nothing does
   abbrev pub Free : Type 0
