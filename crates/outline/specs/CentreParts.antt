@@ -52,7 +52,7 @@ part-on z i k j q o = on-turn (on-part z j k i (on-turn o) (on-turn q))
 -- ---- what is on the whole is on one of the parts
 module _ (z i k j : Point) (o : On z i j) (q : On k i j) (ik : ¬ (i ≡ k)) (kj : ¬ (k ≡ j)) where
   -- with i and j one point, k would be that point too
-  pub apart : Positive (len2 i j)
+  apart : Positive (len2 i j)
   apart =
       apart-length i j (λ e. let p = subst (λ w. On k i w) (sym e) q in
       ik (sym (point-eq (pinched (p .bx)) (pinched (p .by)))))
@@ -67,7 +67,7 @@ module _ (z i k j : Point) (o : On z i j) (q : On k i j) (ik : ¬ (i ≡ k)) (kj
       (λ e. ik (sym (point-eq (same-x i j apart k i (q .line) (turn-start i j) e)
       (same-y i j apart k i (q .line) (turn-start i j) e))))
 
-  pub before-j : along i j k <ℤ along i j j
+  before-j : along i j k <ℤ along i j j
   before-j =
       ≤ℤ-strict (along-high k i j q)
       (λ e. kj (sym (point-eq (same-x i j apart j k (turn-end i j) (q .line) e)
