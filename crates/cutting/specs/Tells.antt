@@ -1,4 +1,4 @@
--- A truth value that tells of a statement whether it holds. `drawing` has the same record, with more laws; neither
+-- A truth value that tells of a statement whether it holds. `outline` has the same record, with more laws; neither
 -- crate stands on the other.
 use mathlib.Core.Path.{_≡_, sym, subst}
 use mathlib.Core.Bool.{Bool, true, false}

@@ -1,5 +1,5 @@
 -- What 01's table asks of a pair of drawings: document 01, "What comes back", lines 1 and 3 to 8. To be believed, with
--- a sound drawing as `drawing` has it and the number of the first line that fails as `rules` has it.
+-- a sound drawing as `outline` has it and the number of the first line that fails as `rules` has it.
 use mathlib.Core.Path.{_≡_}
 use mathlib.Core.List.{List, [], _∷_, _++_}
 use Prim.Native.Nat.{ℕ, _*_, _≤_}
