@@ -1,5 +1,5 @@
 -- Rows of noughts: one row as it is written, and all of them.
-use mathlib.Core.Path.{_≡_, refl, _∙_}
+use mathlib.Core.Path.{_≡_, refl, sym, _∙_}
 use mathlib.Core.Logic.{inl, by-cases}
 use mathlib.Core.List.{List}
 use Prim.Native.Nat.{ℕ, _+_, _≤_, _<_}
@@ -47,6 +47,7 @@ pub blank-marked : {d : List ℤ} {o c : List ℕ} → Blank (corners d) (corner
 blank-marked b = record {
   codes = λ p q hp hq. inl (b .blank p q hp hq);
   done = λ p q hp hq n. absurd n;
+  alike = λ p q hp hq. b .blank p q hp hq ∙ sym (b .blank q p hq hp);
   kept = b .kept;
   size = b .size;
 }

@@ -4,7 +4,7 @@ use mathlib.Core.Bool.{Bool, true, false, _&&_}
 use mathlib.Core.Logic.{inl, inr, by-cases}
 use mathlib.Core.List.{List}
 use Prim.Native.Nat.{ℕ, _+_, _*_, _-_, _≤_, _<_}
-use native.Mathlib.Decide.{ℕ-discrete}
+use native.Mathlib.Decide.{ℕ-discrete, decLt}
 use native.Mathlib.Omega.{arith}
 use lib.IntN.{ℤ}
 use lib.Dec.{leb}
@@ -15,11 +15,13 @@ use Rattle.outline.specs.Drawing.{Sound, corners}
 use Rattle.outline.specs.InOrOn.{CentreSees}
 use Rattle.outline.specs.Tells.{Tells, as-well, most-tells}
 use Rattle.outline.specs.Way.{GrazedBy}
+use Rattle.outline.specs.Third.{third-apart}
 use Rattle.drawing.specs.Sight.{Seen}
 use Rattle.drawing.specs.Table.{cell, both, Code, Marked, RowsDone, Coded, Settled, Settling}
 use Rattle.drawing.specs.Table.{PairSettled, RowSettled, RowsSettled}
 use Rattle.drawing.specs.Codes.{code-third, code-settled, code-unseen, code-past, parts-tell}
-use Rattle.drawing.proofs.Pairs.{Pair, of-pair, pair-size, pair-kept, at-pair, Which, pair, same, which}
+use Rattle.drawing.proofs.Pairs.{of-pair, pair-size, pair-kept, pair-alike, at-pair}
+use Rattle.drawing.proofs.Pairs.{Which, pair, same, which}
 
 -- ---- steps
 pub settling-none : {d : List ℤ} {c : List ℕ} → Coded d c → Settling d c c
@@ -41,7 +43,10 @@ module _ {d : List ℤ} {i j v : ℕ} (c : List ℕ) (sound : Sound d) (hi : i <
 
   pub settling-pair : Settling d c (both c i j v)
   settling-pair = record {
-    coded = λ p q hp hq. code p q hp hq (which c v few hi hj room p q hp hq);
+    coded = record {
+      code = λ p q hp hq. code p q hp hq (which c v few hi hj room p q hp hq);
+      alike = pair-alike c v few hi hj room (coded .alike);
+    };
     still = λ p q hp hq s. still p q hp hq s (which c v few hi hj room p q hp hq);
     kept = pair-kept c v few hi hj room;
     size = pair-size c v few hi hj room;
@@ -50,7 +55,7 @@ module _ {d : List ℤ} {i j v : ℕ} (c : List ℕ) (sound : Sound d) (hi : i <
       code : (p q : ℕ) → p < corners d → q < corners d → Which c v few hi hj room p q →
           Code d p q (cell (both c i j v) p q)
       code p q hp hq (pair x e) = subst (Code d p q) (sym e) (of-pair k x)
-      code p q hp hq (same e) = subst (Code d p q) (sym e) (coded p q hp hq)
+      code p q hp hq (same e) = subst (Code d p q) (sym e) (coded .code p q hp hq)
 
       still : (p q : ℕ) → p < corners d → q < corners d → Settled c p q → Which c v few hi hj room p q →
           Settled (both c i j v) p q
@@ -89,7 +94,7 @@ module _ {d : List ℤ} (sound : Sound d) {i j k : ℕ} (hi : i < corners d) (hj
 pub grazed-by : {d : List ℤ} {i j : ℕ} (c : List ℕ) → i < corners d → j < corners d → Coded d c → 4 ≤ cell c i j →
     GrazedBy d i j (cell c i j - 4)
 grazed-by {d} {i} {j} c hi hj coded h =
-    let g = code-third (coded i j hi hj) h in
+    let g = code-third (coded .code i j hi hj) h in
     let e : g .third ≡ cell c i j - 4 = omega (arith, g .is) in
     subst (GrazedBy d i j) e (g .by)
 
@@ -97,7 +102,7 @@ grazed-by {d} {i} {j} c hi hj coded h =
 pub pair-told : {d : List ℤ} {i j : ℕ} {c : List ℕ} → i < corners d → j < corners d → Coded d c → Settled c i j →
     PairSettled d i j c c (leb 2 (cell c i j))
 pair-told {d} {i} {j} {c} hi hj coded small =
-    let told = code-settled (coded i j hi hj) small in
+    let told = code-settled (coded .code i j hi hj) small in
     record {
       settling = settling-none coded;
       here = small;
@@ -110,8 +115,8 @@ pub row-more : {d : List ℤ} {i t : ℕ} {o c u : List ℕ} → i < corners d �
     Settling d c u → Settled u i t → RowSettled d i (t + 1) o u
 row-more {i} {t} {u} hi ht r s here = record {
   settling = settling-on (r .settling) s;
-  row = λ q l. by-cases (ℕ-discrete q t) (λ e. subst (λ x. Settled u i x) (sym e) here)
-      (λ n. s .still i q hi (omega arith) (r .row q (omega arith)));
+  row = λ q k l. by-cases (ℕ-discrete q t) (λ e. subst (λ x. Settled u i x) (sym e) here)
+      (λ n. s .still i q hi (omega arith) (r .row q k (omega arith)));
 }
 
 -- ---- all rows
@@ -119,18 +124,36 @@ pub rows-more : {d : List ℤ} {t : ℕ} {o c u : List ℕ} → t < corners d �
     RowSettled d t (corners d) c u → RowsSettled d (t + 1) o u
 rows-more {d} {t} {u} ht r s = record {
   settling = settling-on (r .settling) (s .settling);
-  rows = λ p q l hq. by-cases (ℕ-discrete p t) (λ e. subst (λ x. Settled u x q) (sym e) (s .row q hq))
-      (λ n. s .settling .still p q (omega arith) hq (r .rows p q (omega arith) hq));
+  rows = λ p q l k hq. by-cases (ℕ-discrete p t)
+      (λ e. subst (λ x. Settled u x q) (sym e) (s .row q (omega arith) hq))
+      (λ n. s .settling .still p q (omega arith) hq (r .rows p q (omega arith) k hq));
 }
 
 -- ---- the pairs are coded when all rows have been looked at, and told when all are settled
 pub rows-coded : {d : List ℤ} {o c : List ℕ} → Marked d (RowsDone d (corners d)) o c → Coded d c
-rows-coded m p q hp hq = m .done p q hp hq (inr (inl hp))
+rows-coded m = record { code = λ p q hp hq. m .done p q hp hq (inr (inl hp)); alike = m .alike }
 
-pub settled-seen : {d : List ℤ} {o c u : List ℕ} → Marked d (RowsDone d (corners d)) o c →
+-- every pair is settled: one with a corner after it, one with a corner before it, and a corner with itself, since no
+-- third corner lies on a point
+all-settled : {d : List ℤ} {c u : List ℕ} → Sound d → RowsSettled d (corners d) c u → (i j : ℕ) → i < corners d →
+    j < corners d → Settled u i j
+all-settled {d} {c} {u} sound r i j hi hj =
+    by-cases (decLt i j) (λ l. r .rows i j hi l hj)
+    (λ n. by-cases (decLt j i)
+    (λ l. let s = r .rows j i hj l hi in omega (arith, s, k .alike i j hi hj))
+    (λ m. itself (omega arith) (k .code i j hi hj)))
+  where
+    k : Coded d u
+    k = r .settling .coded
+
+    itself : i ≡ j → Code d i j (cell u i j) → Settled u i j
+    itself e (inl x) = x .small
+    itself e (inr g) = absurd (third-apart d (sound .simple) i j (g .third) hi hj (g .by) (inl e))
+
+pub settled-seen : {d : List ℤ} {o c u : List ℕ} → Sound d → Marked d (RowsDone d (corners d)) o c →
     RowsSettled d (corners d) c u → Seen d o u
-settled-seen m r = let s = r .settling in record {
-  told = λ i j hi hj. code-settled (s .coded i j hi hj) (r .rows i j hi hj);
+settled-seen sound m r = let s = r .settling in record {
+  told = λ i j hi hj. code-settled (s .coded .code i j hi hj) (all-settled sound r i j hi hj);
   kept = λ k h. s .kept k h ∙ m .kept k h;
   size = s .size ∙ m .size;
 }

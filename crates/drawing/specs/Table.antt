@@ -29,15 +29,20 @@ pub record Grazed (d : List ℤ) (p q v : ℕ) : Type 0 where
   pub is : v ≡ 4 + third
   pub by : GrazedBy d p q third
 
+-- the two cells of every pair are alike
+abbrev pub Alike : ℕ → List ℕ → Type 0
+Alike n c = (p q : ℕ) → p < n → q < n → cell c p q ≡ cell c q p
+
 -- v says what is known of p and q
 abbrev pub Code : List ℤ → ℕ → ℕ → ℕ → Type 0
 Code d p q v = Cell v (Sees d p q) (CentreSees d p q) ⊎ Grazed d p q v
 
--- ---- a cell of the pairs of corners is 0 or says what is known; of the pairs that `Done` names it says it. Every
--- other cell keeps its value.
+-- ---- a cell of the pairs of corners is 0 or says what is known; of the pairs that `Done` names it says it. The two
+-- cells of a pair are alike. Every other cell keeps its value.
 pub record Marked (d : List ℤ) (Done : ℕ → ℕ → Type 0) (before after : List ℕ) : Type 0 where
   pub codes : (p q : ℕ) → p < corners d → q < corners d → (cell after p q ≡ 0) ⊎ Code d p q (cell after p q)
   pub done : (p q : ℕ) → p < corners d → q < corners d → Done p q → Code d p q (cell after p q)
+  pub alike : Alike (corners d) after
   pub kept : (k : ℕ) → ((p q : ℕ) → p < corners d → q < corners d → ¬ (k ≡ place p q)) →
       getD after k 0 ≡ getD before k 0
   pub size : length after ≡ length before
@@ -101,8 +106,9 @@ Decided d i j before now =
     ((v : ℕ) × Code d i j v × (now ≡ both before i j v)) ⊎ ((CentreSees d i j → Early d i j) × (now ≡ before))
 
 -- ---- third corners, settled pair by pair
-abbrev pub Coded : List ℤ → List ℕ → Type 0
-Coded d c = (p q : ℕ) → p < corners d → q < corners d → Code d p q (cell c p q)
+pub record Coded (d : List ℤ) (c : List ℕ) : Type 0 where
+  pub code : (p q : ℕ) → p < corners d → q < corners d → Code d p q (cell c p q)
+  pub alike : Alike (corners d) c
 
 -- no third corner's number stands there any more
 abbrev pub Settled : List ℕ → ℕ → ℕ → Type 0
@@ -121,15 +127,15 @@ pub record PairSettled (d : List ℤ) (i j : ℕ) (before after : List ℕ) (r :
   pub here : Settled after i j
   pub tells : Tells r (CentreSees d i j)
 
--- the pairs of corner i with the corners before t
+-- the pairs of corner i with the corners after it, before t
 pub record RowSettled (d : List ℤ) (i t : ℕ) (before after : List ℕ) : Type 0 where
   pub settling : Settling d before after
-  pub row : (q : ℕ) → q < t → Settled after i q
+  pub row : (q : ℕ) → i < q → q < t → Settled after i q
 
 -- the rows before t
 pub record RowsSettled (d : List ℤ) (t : ℕ) (before after : List ℕ) : Type 0 where
   pub settling : Settling d before after
-  pub rows : (p q : ℕ) → p < t → q < corners d → Settled after p q
+  pub rows : (p q : ℕ) → p < t → p < q → q < corners d → Settled after p q
 
 -- a whole row, and all rows
 abbrev pub SettlesRow : List ℤ → ℕ → List ℕ → List ℕ → Type 0

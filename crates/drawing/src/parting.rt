@@ -13,6 +13,7 @@ use crate::seeing::SEEN_BY_CENTRES;
 use crate::table::put;
 use limits::ROW;
 
+// Of each corner the pairs with the corners after it: the cells of a pair are alike.
 pub fn settle(xy: &[i32], cells: &mut [u8])
     requires { ⌜ Limits (now xy) × Sound (now xy) × (all-cells ≤ length (now cells)) × Coded (now xy) (now cells) ⌝ }
     ensures { λ _. ⌜ Settles (now (xy .entry)) (now (cells .entry)) (now (cells .exit)) ⌝ }
@@ -27,7 +28,7 @@ fn settle_row(xy: &[i32], cells: &mut [u8], i: usize)
     requires { ⌜ i < corners (now xy) ⌝ }
     ensures { λ _. ⌜ SettlesRow (now (xy .entry)) i (now (cells .entry)) (now (cells .exit)) ⌝ }
 {
-    for j in 0..xy.len() / 2 {
+    for j in i + 1..xy.len() / 2 {
         if cells[i * ROW + j] >= GRAZED {
             centre_sees(xy, cells, i, j);
         }

@@ -69,7 +69,7 @@ module _ (d : List ℤ) (simple : Simple d) (i j k : ℕ) (hi : i < corners d) (
   third-parts = (sees-parts d i j k (g .on), λ s. parts-see d i j k (g .on) I≠K K≠J (s .0) (s .1))
 
   -- no third corner lies on a side
-  third-apart : ¬ Beside d i j
+  pub third-apart : ¬ Beside d i j
   third-apart (inl e) =
       let none : long d i j ≡ 0 = ap (long d i) (sym e) ∙ ap natAbs (no-length (corner d i)) in
       omega (arith, first-shorter, none)

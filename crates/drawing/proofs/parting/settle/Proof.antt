@@ -18,7 +18,7 @@ abbrev μ-loop : tie.MeasureT-loop
 
 loop-holds : tie.Need-loop-holds Inv-loop μ-loop
 loop-holds c =
-    (omega arith, record { settling = settling-none (c .before .pre .3); rows = λ p q l. absurd (omega arith) })
+    (omega arith, record { settling = settling-none (c .before .pre .3); rows = λ p q l k. absurd (omega arith) })
 
 settle-row-requires : tie.Need-settle-row-requires Inv-loop μ-loop
 settle-row-requires c κs =

@@ -17,9 +17,13 @@ Inv-loop xy cells₀ i j₀ j-end cells j = (j ≤ corners xy) × RowSettled xy 
 abbrev μ-loop : tie.MeasureT-loop
 μ-loop xy cells₀ i j₀ j-end cells j = corners xy - j
 
+add-j : tie.Need-add-j Inv-loop μ-loop
+add-j c = let h = c .before .pre in omega (arith, h .0 .0 .shaped .few, h .1)
+
 loop-holds : tie.Need-loop-holds Inv-loop μ-loop
 loop-holds c =
-    (omega arith, record { settling = settling-none (c .before .pre .0 .3); row = λ q l. absurd (omega arith) })
+    let h = c .before .pre in
+    (omega (arith, h .1), record { settling = settling-none (h .0 .3); row = λ q k l. absurd (omega (arith, k, l)) })
 
 -- there are no more corners than a row has cells, and there is room for all rows
 few : (c : tie.In-loop Inv-loop μ-loop) →
@@ -50,8 +54,8 @@ centre-sees-requires c κs =
     let inv = k .before .loop .inv in
     ((h .0 .0, h .0 .1, few k .2, inv .1 .settling .coded), (h .1, k .loop-test .taken))
 
-add-j : tie.Need-add-j Inv-loop μ-loop
-add-j c = omega (arith, few (c .before .before) .1)
+add-j-2 : tie.Need-add-j-2 Inv-loop μ-loop
+add-j-2 c = omega (arith, few (c .before .before) .1)
 
 loop-less : tie.Need-loop-less Inv-loop μ-loop
 loop-less c = omega (arith, c .before .before .loop-test .taken)
@@ -84,12 +88,13 @@ settle-row-spec =
     (tie.spec
     Inv-loop
     μ-loop
+    add-j
     loop-holds
     mul-if1
     add-if1
     slice-read-if1
     centre-sees-requires
-    add-j
+    add-j-2
     loop-less
     loop-again
     same-length

@@ -46,7 +46,10 @@ same-length c = search needs
 
 returns : tie.Need-returns
 returns c =
-    settled-seen (marked (c .before .before .before .before .before .before)) (c .before .before .settle .ensures)
+    let rows = c .before .before .before .before .before .before in
+    let start = rows .before .before .before .before .before .before .before .before .before .before .before .before
+    .before .before .before .before in
+    settled-seen (start .pre .1) (marked rows) (c .before .before .settle .ensures)
 
 pub fill-spec : {M : Type 1} → statement M
 fill-spec =
