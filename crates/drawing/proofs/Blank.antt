@@ -47,7 +47,7 @@ pub blank-marked : {d : List ℤ} {o c : List ℕ} → Blank (corners d) (corner
 blank-marked b = record {
   codes = λ p q hp hq. inl (b .blank p q hp hq);
   done = λ p q hp hq n. absurd n;
-  alike = λ p q hp hq. b .blank p q hp hq ∙ sym (b .blank q p hq hp);
+  both-ways = λ p q hp hq. b .blank p q hp hq ∙ sym (b .blank q p hq hp);
   kept = b .kept;
   size = b .size;
 }

@@ -21,7 +21,7 @@ module _ {d : List ℤ} {A B : ℕ → ℕ → Type 0} {c : List ℕ} where
     grown = λ o m. record {
       codes = m .codes;
       done = λ p q hp hq b. m .done p q hp hq (f p q hp hq b);
-      alike = m .alike;
+      both-ways = m .both-ways;
       kept = m .kept;
       size = m .size;
     };
@@ -36,7 +36,7 @@ module _ {d : List ℤ} {A B : ℕ → ℕ → Type 0} {c : List ℕ} where
     grown = λ o m. record {
       codes = m .codes;
       done = λ p q hp hq b. go o m p q hp hq b (m .codes p q hp hq);
-      alike = m .alike;
+      both-ways = m .both-ways;
       kept = m .kept;
       size = m .size;
     };

@@ -10,7 +10,7 @@ use lib.ListN.{length, getD, set, length-set}
 use lib.Seq.{getD-set-same, getD-set-other}
 use Rattle.limits.specs.Limits.{most-corners, all-cells, place}
 use Rattle.outline.specs.Drawing.{corners}
-use Rattle.drawing.specs.Table.{cell, Alike, Code, Marked, Grows, both}
+use Rattle.drawing.specs.Table.{cell, BothWays, Code, Marked, Grows, both}
 use Rattle.drawing.specs.Codes.{code-back}
 
 abbrev pub Pair : ℕ → ℕ → ℕ → ℕ → Type 0
@@ -55,9 +55,9 @@ module _ {n i j : ℕ} (c : List ℕ) (v : ℕ) (few : n ≤ most-corners) (hi :
   at-pair p q (inl x) = rw (x .0, x .1) here
   at-pair p q (inr x) = rw (x .0, x .1) there
 
-  -- the cells of every pair are alike still
-  pub pair-alike : Alike n c → Alike n (both c i j v)
-  pair-alike m p q hp hq = go (which p q hp hq) (which q p hq hp)
+  -- the two cells of every pair hold the same still
+  pub pair-both-ways : BothWays n c → BothWays n (both c i j v)
+  pair-both-ways m p q hp hq = go (which p q hp hq) (which q p hq hp)
     where
       swap : {p q : ℕ} → Pair i j p q → Pair i j q p
       swap (inl x) = inr (x .1, x .0)
@@ -95,7 +95,7 @@ module _ {d : List ℤ} {i j v : ℕ} (c : List ℕ) (few : corners d ≤ most-c
     marked-pair = record {
       codes = λ p q hp hq. codes p q hp hq (which c v few hi hj room p q hp hq);
       done = λ p q hp hq x. done p q hp hq x (which c v few hi hj room p q hp hq);
-      alike = pair-alike c v few hi hj room (m .alike);
+      both-ways = pair-both-ways c v few hi hj room (m .both-ways);
       kept = λ k h. pair-kept c v few hi hj room k h ∙ m .kept k h;
       size = pair-size c v few hi hj room ∙ m .size;
     }

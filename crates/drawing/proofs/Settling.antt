@@ -20,7 +20,7 @@ use Rattle.drawing.specs.Sight.{Seen}
 use Rattle.drawing.specs.Table.{cell, both, Code, Marked, RowsDone, Coded, Settled, Settling}
 use Rattle.drawing.specs.Table.{PairSettled, RowSettled, RowsSettled}
 use Rattle.drawing.specs.Codes.{code-third, code-settled, code-unseen, code-past, parts-tell}
-use Rattle.drawing.proofs.Pairs.{of-pair, pair-size, pair-kept, pair-alike, at-pair}
+use Rattle.drawing.proofs.Pairs.{of-pair, pair-size, pair-kept, pair-both-ways, at-pair}
 use Rattle.drawing.proofs.Pairs.{Which, pair, same, which}
 
 -- ---- steps
@@ -45,7 +45,7 @@ module _ {d : List ℤ} {i j v : ℕ} (c : List ℕ) (sound : Sound d) (hi : i <
   settling-pair = record {
     coded = record {
       code = λ p q hp hq. code p q hp hq (which c v few hi hj room p q hp hq);
-      alike = pair-alike c v few hi hj room (coded .alike);
+      both-ways = pair-both-ways c v few hi hj room (coded .both-ways);
     };
     still = λ p q hp hq s. still p q hp hq s (which c v few hi hj room p q hp hq);
     kept = pair-kept c v few hi hj room;
@@ -131,7 +131,7 @@ rows-more {d} {t} {u} ht r s = record {
 
 -- ---- the pairs are coded when all rows have been looked at, and told when all are settled
 pub rows-coded : {d : List ℤ} {o c : List ℕ} → Marked d (RowsDone d (corners d)) o c → Coded d c
-rows-coded m = record { code = λ p q hp hq. m .done p q hp hq (inr (inl hp)); alike = m .alike }
+rows-coded m = record { code = λ p q hp hq. m .done p q hp hq (inr (inl hp)); both-ways = m .both-ways }
 
 -- every pair is settled: one with a corner after it, one with a corner before it, and a corner with itself, since no
 -- third corner lies on a point
@@ -140,7 +140,7 @@ all-settled : {d : List ℤ} {c u : List ℕ} → Sound d → RowsSettled d (cor
 all-settled {d} {c} {u} sound r i j hi hj =
     by-cases (decLt i j) (λ l. r .rows i j hi l hj)
     (λ n. by-cases (decLt j i)
-    (λ l. let s = r .rows j i hj l hi in omega (arith, s, k .alike i j hi hj))
+    (λ l. let s = r .rows j i hj l hi in omega (arith, s, k .both-ways i j hi hj))
     (λ m. itself (omega arith) (k .code i j hi hj)))
   where
     k : Coded d u

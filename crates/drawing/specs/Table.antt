@@ -7,7 +7,7 @@ use mathlib.Core.Path.{_≡_}
 use mathlib.Core.Bool.{Bool}
 use mathlib.Core.Logic.{_⊎_}
 use mathlib.Core.List.{List}
-use Prim.Native.Nat.{ℕ, _+_, _≤_, _<_}
+use Prim.Native.Nat.{ℕ, _+_, _<_}
 use lib.IntN.{ℤ}
 use lib.ListN.{getD, length, set}
 use Rattle.limits.specs.Limits.{place}
@@ -29,20 +29,20 @@ pub record Grazed (d : List ℤ) (p q v : ℕ) : Type 0 where
   pub is : v ≡ 4 + third
   pub by : GrazedBy d p q third
 
--- the two cells of every pair are alike
-abbrev pub Alike : ℕ → List ℕ → Type 0
-Alike n c = (p q : ℕ) → p < n → q < n → cell c p q ≡ cell c q p
+-- the two cells of every pair hold the same
+abbrev pub BothWays : ℕ → List ℕ → Type 0
+BothWays n c = (p q : ℕ) → p < n → q < n → cell c p q ≡ cell c q p
 
 -- v says what is known of p and q
 abbrev pub Code : List ℤ → ℕ → ℕ → ℕ → Type 0
 Code d p q v = Cell v (Sees d p q) (CentreSees d p q) ⊎ Grazed d p q v
 
 -- ---- a cell of the pairs of corners is 0 or says what is known; of the pairs that `Done` names it says it. The two
--- cells of a pair are alike. Every other cell keeps its value.
+-- cells of a pair hold the same. Every other cell keeps its value.
 pub record Marked (d : List ℤ) (Done : ℕ → ℕ → Type 0) (before after : List ℕ) : Type 0 where
   pub codes : (p q : ℕ) → p < corners d → q < corners d → (cell after p q ≡ 0) ⊎ Code d p q (cell after p q)
   pub done : (p q : ℕ) → p < corners d → q < corners d → Done p q → Code d p q (cell after p q)
-  pub alike : Alike (corners d) after
+  pub both-ways : BothWays (corners d) after
   pub kept : (k : ℕ) → ((p q : ℕ) → p < corners d → q < corners d → ¬ (k ≡ place p q)) →
       getD after k 0 ≡ getD before k 0
   pub size : length after ≡ length before
@@ -108,7 +108,7 @@ Decided d i j before now =
 -- ---- third corners, settled pair by pair
 pub record Coded (d : List ℤ) (c : List ℕ) : Type 0 where
   pub code : (p q : ℕ) → p < corners d → q < corners d → Code d p q (cell c p q)
-  pub alike : Alike (corners d) c
+  pub both-ways : BothWays (corners d) c
 
 -- no third corner's number stands there any more
 abbrev pub Settled : List ℕ → ℕ → ℕ → Type 0

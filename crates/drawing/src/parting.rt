@@ -13,7 +13,7 @@ use crate::seeing::SEEN_BY_CENTRES;
 use crate::table::put;
 use limits::ROW;
 
-// Of each corner the pairs with the corners after it: the cells of a pair are alike.
+// Of each corner the pairs with the corners after it: the two cells of a pair hold the same.
 pub fn settle(xy: &[i32], cells: &mut [u8])
     requires { ⌜ Limits (now xy) × Sound (now xy) × (all-cells ≤ length (now cells)) × Coded (now xy) (now cells) ⌝ }
     ensures { λ _. ⌜ Settles (now (xy .entry)) (now (cells .entry)) (now (cells .exit)) ⌝ }
