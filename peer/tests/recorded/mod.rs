@@ -1,5 +1,5 @@
-//! The recorded answers. They stand once, where the product's test programs read them: crates/test_*/data. What each file
-//! has is told in this project's README.md.
+//! The recorded answers. They stand once, where the product's test programs read them: crates/test_*/data. What each
+//! file has is told in this project's README.md.
 
 use peer::desks::ROW;
 use peer::marks::{Axis, Mark};
