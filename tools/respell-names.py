@@ -107,6 +107,9 @@ def main():
     def turn(text, keep, only=None, after_dot=True):
         def one(m):
             word = m[0]
+            line = text[text.rfind("\n", 0, m.start()) + 1 : m.start()]
+            if re.match(r"\s*(pub )?mod $", line) or re.match(r"(ghost )?use [^{]*$", line):  # a module's name
+                return word
             if word not in table or word in keep or (only is not None and word not in only):
                 before = text[m.start() - 1 : m.start()]
                 if not (word in table and before == "." and after_dot and only is not None and not MADE_FIELD.match(word)):

@@ -2,7 +2,7 @@
 -- keeps its sign, and a point is inside an angle where its image is inside the angle's image.
 use Rattle.std.specs.Prelude.{◌≡◌, refl, List, [], ◌∷◌, ◌↔◌, ℤ, pos, ◌+ℤ◌, ◌-ℤ◌, ◌*ℤ◌, ◌≤ℤ◌, ◌<ℤ◌}
 use Rattle.std.proofs.Common.{sym, ◌∙◌, ap, subst}
-use Rattle.std.proofs.Math.Logic.{Iff·symm}
+use Rattle.std.proofs.Math.Logic.Iff
 use Rattle.whole.specs.Ring.{E, v, con, ◌:+◌, ◌:-◌, ◌:*◌, neg, ring, ring1, ring2}
 use Rattle.whole.specs.Order.{zero_cancel, positive_nonneg, positive_mul, positive_cancel, nonneg_mul, nonneg_cancel}
 use Rattle.outline.specs.Drawing.{Point, Shared, IsAt, SharedOnlyAt, turn_of, InsideAngle}
@@ -197,6 +197,6 @@ module _ (t : Rule) where
   inside_moved p i q j = (
     inside_too (left_turn_kept p i q) (left_turn_kept i q j).0 (left_turn_kept i j p).0
         (no_right_turn_kept i p j).1 (no_right_turn_kept i j q).1,
-    inside_too (Iff·symm (left_turn_kept p i q)) (left_turn_kept i q j).1 (left_turn_kept i j p).1
+    inside_too (Iff.symm (left_turn_kept p i q)) (left_turn_kept i q j).1 (left_turn_kept i j p).1
         (no_right_turn_kept i p j).0 (no_right_turn_kept i j q).0,
   )

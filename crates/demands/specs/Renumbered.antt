@@ -1,7 +1,7 @@
 -- Renumbering a drawing from any other corner, one corner at a time; once round gives the drawing back.
 use Rattle.std.specs.Prelude.{◌≡◌, refl, List, [], ◌∷◌, ◌++◌, ◌↔◌, ℕ, zero, suc, ◌-◌, ◌*◌, ◌/◌, ℤ, length, take, drop}
 use Rattle.std.proofs.Common.{sym, ◌∙◌, ap, ap₂, subst, append-nil, append_assoc, arith, length-append, length-take, length-drop, take-append-drop, take_at, drop_at}
-use Rattle.std.proofs.Math.Logic.{Iff·trans, Iff·rfl}
+use Rattle.std.proofs.Math.Logic.Iff
 use Rattle.outline.specs.Drawing.{corners, InRange, Simple, doubled_area}
 use Rattle.demands.specs.Entered.{turned, turned_by}
 use Rattle.demands.specs.Turned.{length_turned, in_range_turned, simple_turned, area_turned}
@@ -15,13 +15,13 @@ even_turned : (d : List ℤ) → length d ≡ 2 * corners d → length (turned d
 even_turned d even = subst (λ m. m ≡ 2 * (m / 2)) (sym (length_turned d)) even
 
 pub in_range_turned_by : (k : ℕ) (d : List ℤ) → length d ≡ 2 * corners d → InRange d ↔ InRange (turned_by k d)
-in_range_turned_by zero d even = Iff·rfl
+in_range_turned_by zero d even = Iff.rfl
 in_range_turned_by (suc k) d even =
-    Iff·trans (in_range_turned d even) (in_range_turned_by k (turned d) (even_turned d even))
+    Iff.trans (in_range_turned d even) (in_range_turned_by k (turned d) (even_turned d even))
 
 pub simple_turned_by : (k : ℕ) (d : List ℤ) → length d ≡ 2 * corners d → Simple d ↔ Simple (turned_by k d)
-simple_turned_by zero d even = Iff·rfl
-simple_turned_by (suc k) d even = Iff·trans (simple_turned d even) (simple_turned_by k (turned d) (even_turned d even))
+simple_turned_by zero d even = Iff.rfl
+simple_turned_by (suc k) d even = Iff.trans (simple_turned d even) (simple_turned_by k (turned d) (even_turned d even))
 
 pub area_turned_by : (k : ℕ) (d : List ℤ) → length d ≡ 2 * corners d → doubled_area (turned_by k d) ≡ doubled_area d
 area_turned_by zero d even = refl

@@ -7,7 +7,7 @@ use Rattle.outline.specs.InOrOn.{CentreSees}
 use Rattle.outline.specs.Round.{next_inner, next_last}
 use Rattle.rules.specs.Cutting.{Pairs, Valid, pieces}
 use Rattle.rules.specs.Centre.{HasCentre}
-use Rattle.rules.specs.turn_of.{Moved, centre_turn}
+use Rattle.rules.specs.Turn.{Moved, centre_turn}
 use Rattle.rules.specs.Renumber.{Carried, turn, turn_valid, turn_pieces}
 use Rattle.pair.specs.Pair.{Alike}
 use Rattle.desk.specs.Answer.{InBoth, Cut, ValidCutting}

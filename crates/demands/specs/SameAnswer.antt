@@ -3,7 +3,7 @@
 -- rules learn of a drawing only whether i sees j" (01, "Sight") is here a theorem about the answer.
 use Rattle.std.specs.Prelude.{◌≡◌, ◌↔◌, List, ◌++◌, ℕ, ◌<◌, ℤ, length}
 use Rattle.std.proofs.Common.{sym, subst, arith}
-use Rattle.std.proofs.Math.Logic.{Iff·symm, Iff·rfl}
+use Rattle.std.proofs.Math.Logic.Iff
 use Rattle.limits.specs.Limits.{Roomy}
 use Rattle.outline.specs.Drawing.{corners, InRange, Simple}
 use Rattle.pair.specs.Pair.{Alike, Anticlockwise, of_drawing}
@@ -28,13 +28,13 @@ pub record SameJudged (d d' : List ℤ) : Type 0 where
   pub anticlockwise : Anticlockwise d ↔ Anticlockwise d'
 
 pub same_judged : (d : List ℤ) → SameJudged d d
-same_judged d = record { in_range = Iff·rfl; simple = Iff·rfl; anticlockwise = Iff·rfl }
+same_judged d = record { in_range = Iff.rfl; simple = Iff.rfl; anticlockwise = Iff.rfl }
 
 judged_back : {d d' : List ℤ} → SameJudged d d' → SameJudged d' d
 judged_back j = record {
-  in_range = Iff·symm j.in_range;
-  simple = Iff·symm j.simple;
-  anticlockwise = Iff·symm j.anticlockwise;
+  in_range = Iff.symm j.in_range;
+  simple = Iff.symm j.simple;
+  anticlockwise = Iff.symm j.anticlockwise;
 }
 
 -- in the table, before lines that ask the same
@@ -75,10 +75,10 @@ sight_back first second first' second' sight = record {
   many = sym sight.many;
   cuts =
       subst (λ n. (a b : ℕ) → a < n → b < n → Cut first' second' a b ↔ Cut first second a b) (sym sight.many)
-      (λ a b h g. Iff·symm (sight.cuts a b h g));
+      (λ a b h g. Iff.symm (sight.cuts a b h g));
   seen =
       subst (λ n. (x y : ℕ) → x < n → y < n → InBoth first' second' x y ↔ InBoth first second x y) (sym sight.many)
-      (λ x y h g. Iff·symm (sight.seen x y h g));
+      (λ x y h g. Iff.symm (sight.seen x y h g));
 }
 
 module _ (first second first' second' : List ℤ) (sight : SameSight first second first' second') where
@@ -137,6 +137,6 @@ pub same_answer : (first second first' second' : List ℤ) → Alike first secon
     Answers first second before r ↔ Answers first' second' before r
 same_answer first second first' second' alike shapes before r = (
   one_way first second first' second' alike shapes before r,
-  one_way first' second' first second (Iff·symm alike)
+  one_way first' second' first second (Iff.symm alike)
       (λ a. shapes_back first second first' second' (shapes (alike.1 a))) before r,
 )

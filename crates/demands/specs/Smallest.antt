@@ -3,7 +3,7 @@
 -- a test for each kind of sight: the strict one for cuts, and for centres one that tells of sound drawings only.
 use Rattle.std.specs.Prelude.{◌≡◌, refl, Bool, true, false, List, [], ◌∷◌, ℕ, suc, ◌-◌, ◌≤◌, ◌<◌, T, ltb, ℤ}
 use Rattle.std.proofs.Common.{sym, subst, inl, inr, arith}
-use Rattle.std.proofs.Math.Logic.{Iff·trans}
+use Rattle.std.proofs.Math.Logic.Iff
 use Rattle.limits.specs.Limits.{fewest_corners}
 use Rattle.outline.specs.Drawing.{corners}
 use Rattle.outline.specs.Tells.{Tells, as_well, itself, then_tells}
@@ -110,7 +110,7 @@ module _ (first second : List ℤ) where
         (λ x y h g. ((both_tells x y h g).sure, (both_tells x y h g).told)) in
         record {
           cuts = A.cuts;
-          lists = λ S r s t. Iff·trans (has_centre_lem both_test S) (A.lists S r s t);
+          lists = λ S r s t. Iff.trans (has_centre_lem both_test S) (A.lists S r s t);
           weighs = A.weighs;
           centres = A.centres;
         }

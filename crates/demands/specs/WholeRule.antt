@@ -3,7 +3,7 @@
 -- nothing of the answer: the same number, refusals too, the same counts, every byte the same. 02, K3: "Demands 2 and 3
 -- read the two kinds of sight from here on": the rule keeps either.
 use Rattle.std.specs.Prelude.{◌≡◌, refl, ◌↔◌, List, ℕ, ◌<◌, ℤ}
-use Rattle.std.proofs.Math.Logic.{Iff·rfl, Iff·and}
+use Rattle.std.proofs.Math.Logic.Iff
 use Rattle.std.proofs.Common.{arith}
 use Rattle.outline.specs.Drawing.{corners, InRange}
 use Rattle.pair.specs.Pair.{Alike}
@@ -35,9 +35,9 @@ module _ (t : Rule) where
           judged_second = same_judged second;
           sight = record {
             many = corners_moved t first;
-            cuts = λ i j h g. Iff·and (Iff·and (sees_moved t first i j h g) Iff·rfl)
-                (Iff·and (sees_moved t first j i g h) Iff·rfl);
-            seen = λ x y h g. Iff·and (centre_moved t first x y h g) Iff·rfl;
+            cuts = λ i j h g. Iff.and (Iff.and (sees_moved t first i j h g) Iff.rfl)
+                (Iff.and (sees_moved t first j i g h) Iff.rfl);
+            seen = λ x y h g. Iff.and (centre_moved t first x y h g) Iff.rfl;
           };
         })
 
@@ -50,9 +50,9 @@ module _ (t : Rule) where
           judged_second = judged_moved second range;
           sight = record {
             many = refl;
-            cuts = λ i j h g. Iff·and (Iff·and Iff·rfl (sees_moved t second i j (low a h) (low a g)))
-                (Iff·and Iff·rfl (sees_moved t second j i (low a g) (low a h)));
-            seen = λ x y h g. Iff·and Iff·rfl (centre_moved t second x y (low a h) (low a g));
+            cuts = λ i j h g. Iff.and (Iff.and Iff.rfl (sees_moved t second i j (low a h) (low a g)))
+                (Iff.and Iff.rfl (sees_moved t second j i (low a g) (low a h)));
+            seen = λ x y h g. Iff.and Iff.rfl (centre_moved t second x y (low a h) (low a g));
           };
         })
       where

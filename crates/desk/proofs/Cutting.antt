@@ -20,7 +20,7 @@ use Rattle.telling.specs.Answer as telling
 use Rattle.telling.specs.First.{served_told, first_given}
 use Rattle.telling.specs.declared.Told.{Told}
 use Rattle.telling.specs.declared.Told.TheVariants as is
-use Rattle.desk.specs.Answer.{result}
+use Rattle.desk.specs.Answer.{result_of}
 use Rattle.desk.specs.Stages.{Served, Cuts}
 use Rattle.desk.specs.Parts.{Refusal, FirstMarked}
 use Rattle.desk.specs.declared.Outcome.{Outcome}
@@ -29,11 +29,11 @@ use Rattle.desk.proofs.Refuses.{refuses}
 module _ {n : ℕ} {first second : List ℕ} where
   -- ---- the checks
   pub cut_1 : {before : List ℕ} (o : Outcome) → Refusal 1 o → ¬ Served n first second →
-      Cuts n first second before (result o before)
+      Cuts n first second before (result_of o before)
   cut_1 o made not = refuses o 1 made (omega arith) (inl (not, refl))
 
   pub cut_2 : {before : List ℕ} (o : Outcome) → Refusal 2 o → Served n first second → length before < 5 * n - 10 →
-      Cuts n first second before (result o before)
+      Cuts n first second before (result_of o before)
   cut_2 o made s lt = refuses o 2 made (omega arith) (inr (s, inl (λ h. omega (arith, s.enough), refl)))
 
   -- ---- the search, of what is served
@@ -57,7 +57,7 @@ module _ {n : ℕ} {first second : List ℕ} where
         go (inr (q, inr f)) = omega (arith, f.1)
 
     pub cut_9 : {before : List ℕ} (o : Outcome) → Refusal 9 o → Roomy n (length before) → r ≡ searched.NoCutting →
-        Cuts n first second before (result o before)
+        Cuts n first second before (result_of o before)
     cut_9 o made roomy e =
         refuses o 9 made (omega arith) (inr (s, inr (roomy, inl (go (rw e at h.numbered), refl))))
       where

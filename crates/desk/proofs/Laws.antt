@@ -26,7 +26,7 @@ use Rattle.rules.specs.Result.{Result}
 use Rattle.rules.specs.Agree.{Agree, stars_agree, cuttable_same, given_same}
 use Rattle.cutting.specs.Answer as cutting
 use Rattle.cutting.specs.Answer.{MayCut}
-use Rattle.desk.specs.Answer.{InBoth, Cut, plan, of_cutting, asked, Answers, result}
+use Rattle.desk.specs.Answer.{InBoth, Cut, plan, of_cutting, asked, Answers, result_of}
 use Rattle.desk.specs.Stages.{asked_of_cells, Shows, Cuts}
 use Rattle.desk.specs.Parts.{Refusal}
 use Rattle.desk.specs.declared.Outcome.{Outcome}
@@ -98,7 +98,7 @@ module _ {first second : List ℤ} (pair : SoundPair first second) (first_cells 
 
 -- ---- the answer: lines 1, 2 and 3 to 8
 module _ {first second : List ℤ} (before : List ℕ) {number : ℕ} (checks : Checks first second number) where
-  pub line_1 : (o : Outcome) → Refusal 1 o → number ≡ 1 → Answers first second before (result o before)
+  pub line_1 : (o : Outcome) → Refusal 1 o → number ≡ 1 → Answers first second before (result_of o before)
   line_1 o made e = refuses o 1 made (omega arith) (go checks.numbered)
     where
       -- no later line has this number
@@ -117,11 +117,11 @@ module _ {first second : List ℤ} (before : List ℕ) {number : ℕ} (checks : 
     alike = later.0.0
 
     pub line_2 : (o : Outcome) → Refusal 2 o → length before < 5 * corners first - 10 →
-        Answers first second before (result o before)
+        Answers first second before (result_of o before)
     line_2 o made lt = refuses o 2 made (omega arith) (inr (alike, inl (λ h. omega arith, refl)))
 
     pub lines_3_to_8 : (o : Outcome) → Refusal number o → ¬ (number ≡ 0) → Roomy (corners first) (length before) →
-        Answers first second before (result o before)
+        Answers first second before (result_of o before)
     lines_3_to_8 o made z h =
         let lt : 0 < number = omega arith in
         refuses o number made lt

@@ -59,5 +59,5 @@ Answers first second before r =
     ComesBack (asked first second (length before)) (plan first second) (corners first) before r
 
 -- what a call returns and the buffer after it, as 01's result
-abbrev pub result : Outcome → List ℕ → Result
-result o after = record { number = o.number; count = o.pieces; bytes = o.bytes; after = after }
+abbrev pub result_of : Outcome → List ℕ → Result
+result_of o after = record { number = o.number; count = o.pieces; bytes = o.bytes; after = after }

@@ -4,7 +4,7 @@ use Rattle.std.proofs.Common.{ap}
 use Rattle.outline.specs.Drawing.{corners}
 use Rattle.rules.specs.Plan.{stars_one}
 use Rattle.rules.specs.Result.{Result, comes_back_unique}
-use Rattle.desk.specs.Answer.{InBoth, Cut, plan, asked, Answers, result}
+use Rattle.desk.specs.Answer.{InBoth, Cut, plan, asked, Answers, result_of}
 use Rattle.desk.specs.declared.Outcome.{Outcome}
 
 module _ (first second : List ℤ) (before : List ℕ) where
@@ -14,10 +14,10 @@ module _ (first second : List ℤ) (before : List ℕ) where
       (asked first second (length before))
 
   -- so two calls return the same and leave the same buffer
-  pub call_unique : (o o' : Outcome) (after after' : List ℕ) → Answers first second before (result o after) →
-      Answers first second before (result o' after') → (o ≡ o') × (after ≡ after')
+  pub call_unique : (o o' : Outcome) (after after' : List ℕ) → Answers first second before (result_of o after) →
+      Answers first second before (result_of o' after') → (o ≡ o') × (after ≡ after')
   call_unique o o' after after' h k =
-      let e = answer_unique (result o after) (result o' after') h k in (
+      let e = answer_unique (result_of o after) (result_of o' after') h k in (
         (λ i. record { number = (e i).number; pieces = (e i).count; bytes = (e i).bytes }),
         ap (λ (r : Result). r.after) e,
       )

@@ -5,7 +5,7 @@
 ghost use Rattle.std.specs.Prelude.{◌≡◌, length};
 ghost use Rattle.limits.specs.Limits.{all_cells, Roomy};
 ghost use Rattle.outline.specs.Tells.{Tells};
-ghost use Rattle.desk.specs.Answer.{result};
+ghost use Rattle.desk.specs.Answer.{result_of};
 ghost use Rattle.desk.specs.Stages.{Served, Cuts};
 ghost use Rattle.desk.specs.Parts.{FirstMarked};
 
@@ -16,7 +16,7 @@ use telling::Told;
 
 // Whether n and both arrays of cells are within the limits.
 fn served(n: usize, first: &[u8], second: &[u8]) -> bool
-    ensures* { λ r. ⌜ Tells r (Served n first.now second.now) ⌝ }
+    ensures { Tells result (Served n first.now second.now) }
 {
     if n < FEWEST_CORNERS {
         return false;
@@ -33,7 +33,7 @@ fn served(n: usize, first: &[u8], second: &[u8]) -> bool
 // For the arms of a `match` that cannot be reached.
 fn never() -> Outcome
     requires { ⊥ }
-    ensures* { λ _. ⌜ ⊥ ⌝ }
+    ensures { ⊥ }
 {
     refused(0)
 }
@@ -41,8 +41,7 @@ fn never() -> Outcome
 // The cutting that stands in `pairs` is told.
 fn tell(n: usize, pairs: &[u8], first: &[u8], second: &[u8], room: &mut [u8]) -> Outcome
     requires { FirstMarked n first.now second.now pairs.now × Roomy n (length room.old) }
-    ensures* { λ r. ⌜
-        Cuts n first.now second.now room.old (result r room.new) ⌝ }
+    ensures { Cuts n first.now second.now room.old (result_of result room.new) }
 {
     match telling::tell(n, pairs, first, second, room) {
         Told::Unserved => never(),
@@ -58,8 +57,7 @@ fn tell(n: usize, pairs: &[u8], first: &[u8], second: &[u8], room: &mut [u8]) ->
 // The cutting is searched for.
 fn search(n: usize, first: &[u8], second: &[u8], pairs: &mut [u8], room: &mut [u8]) -> Outcome
     requires { Served n first.now second.now × Roomy n (length room.old) × (length pairs.old ≡ all_cells) }
-    ensures* { λ r. ⌜
-        Cuts n first.now second.now room.old (result r room.new) ⌝ }
+    ensures { Cuts n first.now second.now room.old (result_of result room.new) }
 {
     match cutting::search(n, first, second, pairs) {
         Searched::Unserved => never(),
@@ -71,8 +69,7 @@ fn search(n: usize, first: &[u8], second: &[u8], pairs: &mut [u8], room: &mut [u
 // The answer by the cells of two drawings: 1 where n or the cells are not within the limits, 2 where the room is too
 // small, 9, or 0 and the bytes. The cuts stand in this function's frame.
 pub fn cut(n: usize, first: &[u8], second: &[u8], room: &mut [u8]) -> Outcome
-    ensures* { λ r. ⌜
-        Cuts n first.now second.now room.old (result r room.new) ⌝ }
+    ensures { Cuts n first.now second.now room.old (result_of result room.new) }
 {
     if !served(n, first, second) {
         return refused(1);

@@ -2,7 +2,7 @@
 // sound pair is cut.
 ghost use Rattle.std.specs.Prelude.{◌≡◌, length};
 ghost use Rattle.limits.specs.Limits.{all_cells};
-ghost use Rattle.desk.specs.Answer.{Answers, result};
+ghost use Rattle.desk.specs.Answer.{Answers, result_of};
 ghost use Rattle.desk.specs.Parts.{Refusal};
 
 mod cut;
@@ -21,7 +21,7 @@ pub struct Outcome {
 }
 
 fn refused(number: u8) -> Outcome
-    ensures* { λ r. ⌜ Refusal number r ⌝ }
+    ensures { Refusal number result }
 {
     Outcome {
         number: number,
@@ -40,8 +40,7 @@ fn look(
     room: &mut [u8],
 ) -> Outcome
     requires { (length sight1.old ≡ all_cells) × (length sight2.old ≡ all_cells) }
-    ensures* { λ r. ⌜
-        Answers first.now second.now room.old (result r room.new) ⌝ }
+    ensures { Answers first.now second.now room.old (result_of result room.new) }
 {
     let number = pair::sight(first, second, sight1, sight2);
     if number == 1 {
@@ -59,8 +58,7 @@ fn look(
 // The answer for a pair: 01's number; with number 0 the room begins with the bytes of the first smallest cutting, and
 // else it keeps every byte. The cells of both drawings stand in this function's frame: 01's flat arrays.
 pub fn answer(first: &[i32], second: &[i32], room: &mut [u8]) -> Outcome
-    ensures* { λ r. ⌜
-        Answers first.now second.now room.old (result r room.new) ⌝ }
+    ensures { Answers first.now second.now room.old (result_of result room.new) }
 {
     let mut sight1 = [0u8; ALL_CELLS];
     let mut sight2 = [0u8; ALL_CELLS];
@@ -71,8 +69,7 @@ pub fn answer(first: &[i32], second: &[i32], room: &mut [u8]) -> Outcome
 // value.
 #[unsafe(no_mangle)]
 pub extern "C" fn iravikkon_answer(first: &[i32], second: &[i32], room: &mut [u8]) -> Outcome
-    ensures* { λ r. ⌜
-        Answers first.now second.now room.old (result r room.new) ⌝ }
+    ensures { Answers first.now second.now room.old (result_of result room.new) }
 {
     answer(first, second, room)
 }

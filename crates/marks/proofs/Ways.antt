@@ -23,7 +23,7 @@ use Rattle.desk.specs.Answer as desk
 use Rattle.desk.specs.declared.Outcome.{Outcome}
 use Rattle.marks.specs.Wedges.{wedges}
 use Rattle.marks.specs.Lands.{Lands}
-use Rattle.marks.specs.Carry.{mark, MarkInRange, of_mark, asked_with_mark, wedges_given, CarriesMark, result}
+use Rattle.marks.specs.Carry.{mark, MarkInRange, of_mark, asked_with_mark, wedges_given, CarriesMark, result_of}
 use Rattle.marks.specs.Parts.{Refusal, Outside, Pair, Spells, Read, Finds}
 use Rattle.marks.specs.declared.Carried.{Carried}
 use Rattle.marks.specs.declared.Landing.{Landing}
@@ -106,7 +106,7 @@ module _ {first second : List ℤ} {m : Point} {before : List ℕ} where
   -- nothing is carried, and every byte is kept
   refuses : (c : Carried) (after : List ℕ) (k : ℕ) → 0 < k →
       FirstFailed (asked_with_mark first second m (length before)) k →
-      after ≡ before → Refusal k c → CarriesMark first second m before (result c after) c.landing
+      after ≡ before → Refusal k c → CarriesMark first second m before (result_of c after) c.landing
   refuses c after k h f e r = record {
     comes_back = record {
       numbered = subst (FirstFailed (asked_with_mark first second m (length before))) (sym r.0) f;
@@ -118,10 +118,10 @@ module _ {first second : List ℤ} {m : Point} {before : List ℕ} where
   }
 
   pub out_of_range : (c : Carried) (k : ℕ) → ¬ MarkInRange m → Outside first second (length before) k → Refusal k c →
-      CarriesMark first second m before (result c before) c.landing
+      CarriesMark first second m before (result_of c before) c.landing
   out_of_range c k n o r = go (ℕ_discrete o.k 0)
     where
-      go : Dec (o.k ≡ 0) → CarriesMark first second m before (result c before) c.landing
+      go : Dec (o.k ≡ 0) → CarriesMark first second m before (result_of c before) c.landing
       go (yes z) =
           let e = o.or_ten.ten z in
           let lines = desk.asked first second (length before) in
@@ -136,7 +136,7 @@ module _ {first second : List ℤ} {m : Point} {before : List ℕ} where
 
   pub pair_refused : (c : Carried) (o : Outcome) (after : List ℕ) →
       desk.Answers first second before (desk.result o after) →
-      ¬ (o.number ≡ 0) → Refusal o.number c → CarriesMark first second m before (result c after) c.landing
+      ¬ (o.number ≡ 0) → Refusal o.number c → CarriesMark first second m before (result_of c after) c.landing
   pair_refused c o after a f r =
       let h : 0 < o.number = omega arith in
       refuses c after o.number h

@@ -46,5 +46,5 @@ pub record CarriesMark (first second : List ℤ) (m : Point) (before : List ℕ)
   pub lands : (e : r.number ≡ 0) → Lands first second m (wedges_given (comes_back.given e)) l
 
 -- what a call returns and the buffer after it, as 01's result
-abbrev pub result : Carried → List ℕ → Result
-result c after = record { number = c.number; count = c.pieces; bytes = c.bytes; after = after }
+abbrev pub result_of : Carried → List ℕ → Result
+result_of c after = record { number = c.number; count = c.pieces; bytes = c.bytes; after = after }

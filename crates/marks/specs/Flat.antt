@@ -3,7 +3,7 @@ use Rattle.std.specs.Prelude.{◌≡◌, List, ℕ, ℤ, pos}
 use Rattle.std.specs.Float.{binary64}
 use Rattle.std.specs.Float.Ieee.{of_bits}
 use Rattle.outline.specs.Drawing.{Point}
-use Rattle.marks.specs.Carry.{CarriesMark, result}
+use Rattle.marks.specs.Carry.{CarriesMark, result_of}
 use Rattle.marks.specs.declared.Carried.{Carried}
 use Rattle.marks.specs.declared.Landing.{Landing}
 use Rattle.marks.specs.declared.Landing.TheVariants.{Place, OnNoPiece}
@@ -39,4 +39,4 @@ flat c = flat_of c.number c.pieces c.bytes c.landing
 pub record CarriesFlat (first second : List ℤ) (m : Point) (before after : List ℕ) (f : Flat) : Type 0 where
   pub carried : Carried
   pub is_flat : f ≡ flat carried
-  pub carries : CarriesMark first second m before (result carried after) carried.landing
+  pub carries : CarriesMark first second m before (result_of carried after) carried.landing

@@ -12,7 +12,7 @@ use Rattle.rules.specs.Result.{Result, Given, comes_back_unique}
 use Rattle.desk.specs.Answer.{InBoth, Cut, plan}
 use Rattle.marks.specs.Wedges.{Wedge, wedges}
 use Rattle.marks.specs.Lands.{LandsBy, Lands}
-use Rattle.marks.specs.Carry.{asked_with_mark, wedges_given, CarriesMark, result}
+use Rattle.marks.specs.Carry.{asked_with_mark, wedges_given, CarriesMark, result_of}
 use Rattle.marks.specs.Flat.{flat, CarriesFlat}
 use Rattle.marks.specs.OneWay.{told_same}
 use Rattle.marks.specs.declared.Carried.{Carried}
@@ -80,11 +80,11 @@ module _ (first second : List ℤ) (m : Point) (before : List ℕ) where
 
   -- so two calls return the same and leave the same buffer
   pub carry_unique : (c d : Carried) (after after' : List ℕ) →
-      CarriesMark first second m before (result c after) c.landing →
-      CarriesMark first second m before (result d after') d.landing → (c ≡ d) × (after ≡ after')
+      CarriesMark first second m before (result_of c after) c.landing →
+      CarriesMark first second m before (result_of d after') d.landing → (c ≡ d) × (after ≡ after')
   carry_unique c d after after' a b =
-      let e = result_unique (result c after) (result d after') c.landing d.landing a b in
-      let l = landing_unique (result c after) (result d after') c.landing d.landing a b in (
+      let e = result_unique (result_of c after) (result_of d after') c.landing d.landing a b in
+      let l = landing_unique (result_of c after) (result_of d after') c.landing d.landing a b in (
         (λ i. record { number = (e i).number; pieces = (e i).count; bytes = (e i).bytes; landing = l i }),
         ap (λ (r : Result). r.after) e,
       )

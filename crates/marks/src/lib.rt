@@ -3,7 +3,7 @@
 ghost use Rattle.std.specs.Prelude.{◌≡◌, length};
 ghost use Rattle.outline.specs.Drawing.{corners};
 ghost use Rattle.outline.specs.Tells.{Tells};
-ghost use Rattle.marks.specs.Carry.{mark, MarkInRange, CarriesMark, result};
+ghost use Rattle.marks.specs.Carry.{mark, MarkInRange, CarriesMark, result_of};
 ghost use Rattle.marks.specs.Parts.{Refusal, Pair, Read, Finds};
 
 pub mod flat;
@@ -41,7 +41,7 @@ pub struct Carried {
 }
 
 fn in_range(x: i32, y: i32) -> bool
-    ensures* { λ r. ⌜ Tells r (MarkInRange (mark x y)) ⌝ }
+    ensures { Tells result (MarkInRange (mark x y)) }
 {
     if x < -FURTHEST {
         return false;
@@ -56,7 +56,7 @@ fn in_range(x: i32, y: i32) -> bool
 }
 
 fn refused(number: u8) -> Carried
-    ensures* { λ r. ⌜ Refusal number r ⌝ }
+    ensures { Refusal number result }
 {
     Carried {
         number: number,
@@ -69,7 +69,7 @@ fn refused(number: u8) -> Carried
 // Where the mark lands by the bytes of a cutting.
 fn landed(first: &[i32], second: &[i32], x: i32, y: i32, told: &[u8]) -> Landing
     requires { Pair first.now second.now × MarkInRange (mark x y) × Read (corners first.now) told.now }
-    ensures* { λ r. ⌜ Finds first.now second.now (mark x y) told.now r ⌝ }
+    ensures { Finds first.now second.now (mark x y) told.now result }
 {
     let m = Coordinates {
         x: x as i64,
@@ -81,9 +81,7 @@ fn landed(first: &[i32], second: &[i32], x: i32, y: i32, told: &[u8]) -> Landing
 // The mark (x, y) of the first drawing. The room is lent and used as by `desk::answer`: with number 0 it begins with
 // the bytes of the cutting, whether the mark lands or not, and else it keeps every byte.
 pub fn carry(first: &[i32], second: &[i32], x: i32, y: i32, room: &mut [u8]) -> Carried
-    ensures* { λ r. ⌜
-        CarriesMark first.now second.now (mark x y)
-        room.old (result r room.new) r.landing ⌝ }
+    ensures { CarriesMark first.now second.now (mark x y) room.old (result_of result room.new) result.landing }
 {
     if !in_range(x, y) {
         return refused(outside::number(first, second, room.len()));

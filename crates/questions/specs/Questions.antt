@@ -17,7 +17,7 @@ use Rattle.limits.specs.Limits.{most_numbers, room}
 use Rattle.recorded.specs.Decimals.{word_start, natural_at, wholes_listed, whole_in}
 use Rattle.recorded.specs.Counted.{first_number, after_first, counted_wholes, told}
 use Rattle.recorded.specs.declared.counted.Counted.{Counted}
-use Rattle.marks.specs.Carry.{mark, CarriesMark, result}
+use Rattle.marks.specs.Carry.{mark, CarriesMark, result_of}
 use Rattle.marks.specs.declared.Axis.{Axis}
 use Rattle.marks.specs.declared.Carried.{Carried}
 use Rattle.marks.specs.declared.Landing.{Landing}
@@ -99,7 +99,7 @@ no_question = 63 ∷ 10 ∷ []
 pub record MarkTold (first second : List ℤ) (x y : ℤ) (w : List ℕ) : Type 0 where
   pub carried : Carried
   pub after : List ℕ
-  pub carries : CarriesMark first second (mark x y) (replicate room 0) (result carried after) carried.landing
+  pub carries : CarriesMark first second (mark x y) (replicate room 0) (result_of carried after) carried.landing
   pub is_line : w ≡ mark_line carried.number carried.landing
 
 abbrev pub Answers : Option Question → List ℕ → Type 0

@@ -3,7 +3,7 @@
 -- same sight.)
 use Rattle.std.specs.Prelude.{◌≡◌, refl, ◌↔◌, List, [], ◌∷◌, ℕ, ◌+◌, ◌≤◌, ◌<◌, length}
 use Rattle.std.proofs.Common.{sym, ap₂, inl, inr, arith}
-use Rattle.std.proofs.Math.Logic.{Iff·symm}
+use Rattle.std.proofs.Math.Logic.Iff
 use Rattle.rules.specs.Lists.{In, Rising}
 use Rattle.rules.specs.Cutting.{Pairs, Inner, Valid, First, pieces, last, closing, weight}
 use Rattle.rules.specs.Centre.{Centre, HasCentre, Lowest, Layout}
@@ -24,10 +24,10 @@ pub record Agree (n : ℕ) (p q : Plan) : Type 0 where
 
 pub agree_back : {n : ℕ} {p q : Plan} → Agree n p q → Agree n q p
 agree_back a = record {
-  cuts = λ x y i. Iff·symm (a.cuts x y i);
-  lists = λ S r s t. Iff·symm (a.lists S r s t);
+  cuts = λ x y i. Iff.symm (a.cuts x y i);
+  lists = λ S r s t. Iff.symm (a.lists S r s t);
   weighs = λ x y. sym (a.weighs x y);
-  centres = λ S s x. Iff·symm (a.centres S s x);
+  centres = λ S s x. Iff.symm (a.centres S s x);
 }
 
 -- ---- bytes and weights, piece by piece

@@ -87,7 +87,7 @@ pub mod Traced
 pub mod Trace
 -- ---- renumbering
 -- by one corner: lists of corners
-pub mod turn_of
+pub mod Turn
 -- and cuttings: valid ones stay valid, and need no more pieces
 pub mod Renumber
 -- ---- what antt computes of given corners

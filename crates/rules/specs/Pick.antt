@@ -32,9 +32,11 @@ module _ (w : ℕ → ℕ → ℕ) (i j : ℕ) where
     where
       least' : (u : Tree) → In u (t ∷ []) → total w i j t ≤ total w i j u
       least' u (inl e) = rw e (omega arith)
+      least' u (inr k) = elim k [ ]
 
       first' : (u : Tree) → In u (t ∷ []) → total w i j u ≤ total w i j t → (t ≡ u) ⊎ Before t u
       first' u (inl e) le = inl (sym e)
+      first' u (inr k) le = elim k [ ]
 
   -- a heavier tree in front is passed over
   picked_later : (t p : Tree) (l : List Tree) → total w i j p < total w i j t → Picked l p → Picked (t ∷ l) p

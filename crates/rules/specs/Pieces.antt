@@ -18,6 +18,8 @@ module _ (C : Pairs) where
       In y (a ∷ corners t) →
       x < y → T (C x y) → (x ≡ a → y < top) → Inside (a ∷ corners t) x y
   of_inside a top j leaf h x y (inl p) (inl q) lt c k = absurd (omega arith)
+  of_inside a top j leaf h x y (inl p) (inr q) lt c k = elim q [ ]
+  of_inside a top j leaf h x y (inr p) _ lt c k = elim p [ ]
   of_inside a top j (link b u r) h x y (inl p) (inl q) lt c k = absurd (omega arith)
   of_inside a top j (link b u r) h x y (inl p) (inr q) lt c k = between
     where
@@ -41,6 +43,8 @@ module _ (C : Pairs) where
       In y (a ∷ corners t) →
       x < y → Inside (a ∷ corners t) x y → Linked C x y
   of_linked a top j leaf h x y (inl p) (inl q) lt f = absurd (omega arith)
+  of_linked a top j leaf h x y (inl p) (inr q) lt f = elim q [ ]
+  of_linked a top j leaf h x y (inr p) _ lt f = elim p [ ]
   of_linked a top j (link b u r) h x y (inl p) (inl q) lt f = absurd (omega arith)
   of_linked a top j (link b u r) h x y (inl p) (inr q) lt f = rw (p, same (dec_lt b y)) (line_linked C a b u _ h.3)
     where

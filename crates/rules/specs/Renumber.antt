@@ -3,14 +3,14 @@
 -- they are as few as before.
 use Rattle.std.specs.Prelude.{◌≡◌, refl, false, ◌&&◌, ◌||◌, ◌↔◌, List, [], ◌∷◌, ℕ, zero, suc, ◌-◌, ◌≤◌, ◌<◌, T, eqb, ltb, length}
 use Rattle.std.proofs.Common.{sym, subst, inl, inr, ⊎_elim, arith, ltb→lt, lt→ltb}
-use Rattle.std.proofs.Math.Logic.{Iff·trans}
+use Rattle.std.proofs.Math.Logic.Iff
 use Rattle.std.specs.Float.Ieee.Fits.{and_i, and_l, and_r}
 use Rattle.rules.specs.Lists.{In, pigeon, Rising}
 use Rattle.rules.specs.Cutting.{Pairs, cross_of, Inner, Uncrossed, Joined, Near, Region, Valid, pieces, one, First}
 use Rattle.rules.specs.Trees.{weight_one}
 use Rattle.rules.specs.Regions.{pieces_regions, pieces_distinct}
-use Rattle.rules.specs.turn_of.{back, New, in_back, small_back, rising_back, length_back}
-use Rattle.rules.specs.turn_of.{near_low, near_high, back_injective}
+use Rattle.rules.specs.Turn.{back, New, in_back, small_back, rising_back, length_back}
+use Rattle.rules.specs.Turn.{near_low, near_high, back_injective}
 
 -- the set by the new numbers: the pairs of C with corner n-1, which is now 0, and the others
 abbrev pub turn : ℕ → Pairs → Pairs
@@ -99,10 +99,10 @@ region_back n C S R = record {
     line x y lt (inl p) (inr q) = absurd (omega arith)
     line x y lt (inr p) (inl q) =
         let new = R.lines 0 (suc x) q.1 p.1 (omega arith) in
-        Iff·trans (near_high n S R.rising R.small x y lt q.0) (Iff·trans new (joined_high n C x y q.0))
+        Iff.trans (near_high n S R.rising R.small x y lt q.0) (Iff.trans new (joined_high n C x y q.0))
     line x y lt (inr p) (inr q) =
         let new = R.lines (suc x) (suc y) p.1 q.1 (omega arith) in
-        Iff·trans (near_low n S R.rising R.small x y q.0) (Iff·trans new (joined_low n C x y q.0))
+        Iff.trans (near_low n S R.rising R.small x y q.0) (Iff.trans new (joined_low n C x y q.0))
 
 -- ---- valid cuttings to valid cuttings, where the pairs that may be cuts and the lists that may be pieces go with the
 -- numbers

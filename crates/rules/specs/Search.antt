@@ -6,7 +6,7 @@
 -- keeps the best road of corners that x sees and asks afterwards whether x is on it; a cheaper road that leaves x out
 -- then hides the best one through x, and on some drawings four pieces are found where three are enough.
 use Rattle.std.specs.Prelude.{◌≡◌, refl, ◌⊎◌, List, [], ◌∷◌, ◌++◌, ℕ, suc, ◌+◌, ◌≤◌, ◌<◌}
-use Rattle.std.proofs.Common.{inl, inr, arith}
+use Rattle.std.proofs.Common.{subst, inl, inr, arith}
 use Rattle.rules.specs.Lists.{In, rise_in, rise_from}
 use Rattle.rules.specs.Order.{Upto}
 use Rattle.rules.specs.Centre.{Centre, HasCentre}
@@ -46,7 +46,7 @@ module _ (cut may : ℕ → ℕ → Type 0) (val : ℕ → ℕ → ℕ) (sees : 
     where
       on : (x ≡ i) ⊎ (x ≡ j) → (s : List ℕ) → Looks x i j s → In x (i ∷ s)
       on (inl q) s r = inl q
-      on (inr q) s r = inr (rw q (road_reaches (SeenStep (Way cut may) (sees x)) i j s lt r))
+      on (inr q) s r = inr (subst (λ z. In z s) (sym q) (road_reaches (SeenStep (Way cut may) (sees x)) i j s lt r))
 
   -- the centre lies between the ends
   pub centre_between : {x i j : ℕ} {h₁ h₂ : Type 0} {v₁ v₂ : ℕ} {p₁ p₂ : List ℕ} → i < x → x < j →

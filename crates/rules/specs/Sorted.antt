@@ -45,6 +45,7 @@ module _ {A : Type 0} (P : A → Type 0) (R : A → A → Type 0) where
     where
       only' : (x : A) → In x (a ∷ []) → P x
       only' x (inl e) = subst P (sym e) h
+      only' x (inr k) = elim k [ ]
 
   -- all or nothing
   pub listed_if : (b : Bool) (l : List A) → (T b → Listed P R l) → ((x : A) → P x → T b) →

@@ -45,6 +45,7 @@ lower_in z (suc x ∷ s) (inr h) = inr (lower_in z s h)
 in_wrap : (n z : ℕ) (s : List ℕ) → In z (wrap n s) → (z ≡ n - 1) × In 0 s
 in_wrap n z [] h = absurd h
 in_wrap n z (zero ∷ s) (inl e) = (e, inl refl)
+in_wrap n z (zero ∷ s) (inr k) = elim k [ ]
 in_wrap n z (suc x ∷ s) h = absurd h
 
 wrap_in : (n : ℕ) (s : List ℕ) → Rising s → In 0 s → In (n - 1) (wrap n s)

@@ -10,11 +10,11 @@ use Rattle.rules.specs.Cutting.{pieces}
 use Rattle.rules.specs.Centre.{LowestOrZero}
 use Rattle.rules.specs.Cells.{marked, InBoth}
 use Rattle.rules.specs.Result.{Carries}
-use Rattle.telling.specs.Answer.{result, Served, Telling}
+use Rattle.telling.specs.Answer.{result_of, Served, Telling}
 use Rattle.telling.specs.declared.Told.TheVariants.{Unserved, Short, Pieces}
 
 module _ {n : ℕ} {pairs first second out : List ℕ} where
-  pub unserved : ¬ Served n pairs first second → Telling n pairs first second out (result Unserved out)
+  pub unserved : ¬ Served n pairs first second → Telling n pairs first second out (result_of Unserved out)
   unserved fails = record {
     numbered = inl (fails, refl);
     refused = λ l. record { no_pieces = refl; no_bytes = refl; kept = refl };
@@ -22,7 +22,7 @@ module _ {n : ℕ} {pairs first second out : List ℕ} where
   }
 
   pub short : Served n pairs first second → ¬ Roomy n (length out) →
-      Telling n pairs first second out (result Short out)
+      Telling n pairs first second out (result_of Short out)
   short s fails = record {
     numbered = inr (s, inl (fails, refl));
     refused = λ l. record { no_pieces = refl; no_bytes = refl; kept = refl };
@@ -30,6 +30,6 @@ module _ {n : ℕ} {pairs first second out : List ℕ} where
   }
 
   pub given : {after : List ℕ} {count bytes : ℕ} → Served n pairs first second → Roomy n (length out) →
-      Carries (LowestOrZero (InBoth first second)) (pieces n (marked pairs)) out (result (Pieces count bytes) after) →
-      Telling n pairs first second out (result (Pieces count bytes) after)
+      Carries (LowestOrZero (InBoth first second)) (pieces n (marked pairs)) out (result_of (Pieces count bytes) after) →
+      Telling n pairs first second out (result_of (Pieces count bytes) after)
   given s r g = record { numbered = inr (s, inr (r, refl)); refused = λ l. absurd (omega (arith, l)); given = λ e. g }

@@ -17,10 +17,10 @@ use Rattle.telling.specs.declared.Told.{Told}
 use Rattle.telling.specs.declared.Told.TheVariants.{Unserved, Short, Pieces}
 
 -- ---- 01's number and values for each case
-abbrev pub result : Told → List ℕ → Result
-result Unserved after = record { number = 1; count = 0; bytes = 0; after = after }
-result Short after = record { number = 2; count = 0; bytes = 0; after = after }
-result (Pieces count bytes) after = record { number = 0; count = count; bytes = bytes; after = after }
+abbrev pub result_of : Told → List ℕ → Result
+result_of Unserved after = record { number = 1; count = 0; bytes = 0; after = after }
+result_of Short after = record { number = 2; count = 0; bytes = 0; after = after }
+result_of (Pieces count bytes) after = record { number = 0; count = count; bytes = bytes; after = after }
 
 -- ---- the lines of 01's table that can apply here
 -- 3 to 64 corners, and whole arrays of cells

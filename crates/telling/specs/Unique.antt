@@ -7,7 +7,7 @@ use Rattle.rules.specs.Centre.{LowestOrZero, lowest_or_zero_one}
 use Rattle.rules.specs.Cells.{marked, InBoth}
 use Rattle.rules.specs.Refusals.{failed_unique}
 use Rattle.rules.specs.Result.{Result, refused_unique, carries_unique}
-use Rattle.telling.specs.Answer.{result, asked, Telling}
+use Rattle.telling.specs.Answer.{result_of, asked, Telling}
 use Rattle.telling.specs.declared.Told.{Told}
 use Rattle.telling.specs.declared.Told.TheVariants.{Unserved, Short, Pieces}
 
@@ -28,16 +28,16 @@ module _ (n : ℕ) (pairs first second before : List ℕ) where
           (a.given (omega arith)) (b.given (omega (arith, e)))
 
   -- so two calls return the same and leave the same buffer: a case has its own number
-  pub tell_unique : (o o' : Told) (after after' : List ℕ) → Telling n pairs first second before (result o after) →
-      Telling n pairs first second before (result o' after') → (o ≡ o') × (after ≡ after')
+  pub tell_unique : (o o' : Told) (after after' : List ℕ) → Telling n pairs first second before (result_of o after) →
+      Telling n pairs first second before (result_of o' after') → (o ≡ o') × (after ≡ after')
   tell_unique o o' after after' t t' =
-      let e = telling_unique (result o after) (result o' after') t t' in
+      let e = telling_unique (result_of o after) (result_of o' after') t t' in
       (case o o' e, back o o' e)
     where
-      back : (o o' : Told) → result o after ≡ result o' after' → after ≡ after'
+      back : (o o' : Told) → result_of o after ≡ result_of o' after' → after ≡ after'
       back o o' e = ends o o' (ap (λ (r : Result). r.after) e)
         where
-          ends : (o o' : Told) → (result o after).after ≡ (result o' after').after → after ≡ after'
+          ends : (o o' : Told) → (result_of o after).after ≡ (result_of o' after').after → after ≡ after'
           ends Unserved Unserved e = e
           ends Unserved Short e = e
           ends Unserved (Pieces c b) e = e
@@ -48,7 +48,7 @@ module _ (n : ℕ) (pairs first second before : List ℕ) where
           ends (Pieces c b) Short e = e
           ends (Pieces c b) (Pieces c' b') e = e
 
-      case : (o o' : Told) → result o after ≡ result o' after' → o ≡ o'
+      case : (o o' : Told) → result_of o after ≡ result_of o' after' → o ≡ o'
       case Unserved Unserved e = refl
       case Short Short e = refl
       case (Pieces c b) (Pieces c' b') e = λ i. Pieces (e i).count (e i).bytes

@@ -7,7 +7,7 @@ mod cells;
 mod centres;
 mod ranges;
 
-ghost use Rattle.telling.specs.Answer.{result, Telling};
+ghost use Rattle.telling.specs.Answer.{result_of, Telling};
 
 use centres::put_centres;
 use limits::{ALL_CELLS, FEWEST_CORNERS, MOST_CORNERS};
@@ -27,9 +27,7 @@ pub enum Told {
 // has the 2 among its binary digits, and no other digit counts. The pairs may cross: what is told of them is fixed all
 // the same. p pieces take 4p + n - 2 bytes, at most 5n - 10. What is refused leaves `out` alone.
 pub fn tell(n: usize, pairs: &[u8], first: &[u8], second: &[u8], out: &mut [u8]) -> Told
-    ensures* { λ r. ⌜
-        Telling n pairs.now first.now second.now
-        out.old (result r out.new) ⌝ }
+    ensures { Telling n pairs.now first.now second.now out.old (result_of result out.new) }
 {
     if n < FEWEST_CORNERS {
         return Told::Unserved;
