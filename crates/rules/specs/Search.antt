@@ -6,7 +6,7 @@
 -- keeps the best road of corners that x sees and asks afterwards whether x is on it; a cheaper road that leaves x out
 -- then hides the best one through x, and on some drawings four pieces are found where three are enough.
 use Rattle.std.specs.Prelude.{◌≡◌, refl, ◌⊎◌, List, [], ◌∷◌, ◌++◌, ℕ, suc, ◌+◌, ◌≤◌, ◌<◌}
-use Rattle.std.proofs.Common.{subst, inl, inr, arith}
+use Rattle.std.proofs.Common.{sym, subst, inl, inr, arith}
 use Rattle.rules.specs.Lists.{In, rise_in, rise_from}
 use Rattle.rules.specs.Order.{Upto}
 use Rattle.rules.specs.Centre.{Centre, HasCentre}
