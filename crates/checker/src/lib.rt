@@ -1,6 +1,8 @@
 // Cuttings that were made elsewhere: document 02, K4. A pair of drawings and a list of pieces in 01's layout, in any
 // order and with any allowed centres, are accepted exactly when the list is a valid cutting; else the first thing that
 // is wrong is told.
+#![tactic(auto)]
+
 ghost use Rattle.std.specs.Prelude.{◌≡◌, [], ◌∷◌, ◌≤◌, length};
 ghost use Rattle.limits.specs.Limits.{fewest_corners, most_corners, all_cells};
 ghost use Rattle.rules.specs.Lists.{In};

@@ -4,6 +4,8 @@
 // The search fills the values of the lines column by column (`lines`, over the rows of `lanes`); of the earlier
 // columns it keeps tables of pairs only. The cutting is then traced from the values (`pieces`, `tracing`). No choice
 // is stored.
+#![tactic(auto)]
+
 mod again;
 mod cells;
 mod lanes;

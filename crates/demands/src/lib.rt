@@ -1,1 +1,2 @@
 // Theorems about the answer: see specs/Lib.antt. No code.
+#![tactic(auto)]

@@ -1,5 +1,7 @@
 // What comes back for a pair of drawings: document 01, "What comes back". The checks run in the order of its table; a
 // sound pair is cut.
+#![tactic(auto)]
+
 ghost use Rattle.std.specs.Prelude.{◌≡◌, length};
 ghost use Rattle.limits.specs.Limits.{all_cells};
 ghost use Rattle.desk.specs.Answer.{Answers, result_of};

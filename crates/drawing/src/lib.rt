@@ -1,6 +1,8 @@
 // The drawing: whether a list of coordinates is a sound drawing, and which of its corners see each other
 // (document 01). Everything that works on coordinates is in this crate; others learn of a drawing only its judgement
 // and its sight.
+#![tactic(auto)]
+
 ghost use Rattle.outline.specs.Drawing.{Sound};
 ghost use Rattle.drawing.specs.Judgement.{Judgement};
 ghost use Rattle.drawing.specs.Sight.{Told, Sight};

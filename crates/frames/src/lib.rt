@@ -1,5 +1,7 @@
 // Lines of hexadecimal, as document 01 has them on the wire: a reader of frames that reports pairs of drawings, and
 // the lines of an answer. What is done with a pair is no matter of this crate.
+#![tactic(auto)]
+
 ghost use Rattle.std.specs.Prelude.{◌≡◌};
 ghost use Rattle.frames.specs.Reader.{fresh, ends_in_fault};
 ghost use Rattle.frames.specs.Promise.{Feeding};

@@ -1,5 +1,6 @@
 // The limits of document 01, and what follows from them, for code; `specs/Limits.antt` has the same for definitions.
 // No other crate has such a number of its own.
+#![tactic(auto)]
 
 // 01, "A sound drawing": "n is 3 to 64. Each coordinate is -1,000,000 to 1,000,000."
 pub const FEWEST_CORNERS: usize = 3;

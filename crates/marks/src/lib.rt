@@ -1,5 +1,7 @@
 // Marks carried across: document 02, K1. A mark in the first drawing lands in the second where the same area weights
 // put it, by the wedges of the pair's cutting.
+#![tactic(auto)]
+
 ghost use Rattle.std.specs.Prelude.{◌≡◌, length};
 ghost use Rattle.outline.specs.Drawing.{corners};
 ghost use Rattle.outline.specs.Tells.{Tells};

@@ -1,1 +1,2 @@
 // What a drawing is and who sees whom in it: definitions and theorems, see specs/Lib.antt. No code.
+#![tactic(auto)]

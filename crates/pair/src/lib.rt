@@ -1,5 +1,7 @@
 // The checks of a pair of drawings: lines 1 and 3 to 8 of 01's table ("What comes back"), in one call, which tells the
 // sight of both on the way. What else is asked of a pair, and where in the order, is the caller's.
+#![tactic(auto)]
+
 ghost use Rattle.std.specs.Prelude.{◌≡◌, ◌≤◌};
 ghost use Rattle.drawing.specs.Judgement.{number_from};
 ghost use Rattle.outline.specs.Tells.{Tells};

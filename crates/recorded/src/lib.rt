@@ -1,5 +1,7 @@
 // What the test programs and `questions` share: the numbers of a text, the bits of floats, and the buffers that a call
 // is lent and must leave.
+#![tactic(auto)]
+
 pub mod counted;
 pub mod decimals;
 pub mod floats;

@@ -1,1 +1,2 @@
 // The cutting theory stands in specs/: definitions and theorems, no code.
+#![tactic(auto)]

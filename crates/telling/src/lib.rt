@@ -3,6 +3,8 @@
 //
 //     ranges:   n, pairs       ->  k 0 corners, k 0 corners, ..    one writes a range, another walks a piece's lines
 //     centres:  first, second  ->  k c corners, k c corners, ..    a pass over the told pieces
+#![tactic(auto)]
+
 mod cells;
 mod centres;
 mod ranges;

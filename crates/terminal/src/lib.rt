@@ -1,6 +1,8 @@
 // From a whole input to the whole output of the desk program, document 01, "The frames on the wire", in chunks of any
 // size. What is kept from chunk to chunk is a session, by value, and the numbers of a pair that is being read, in two
 // buffers of the caller's.
+#![tactic(auto)]
+
 ghost use Rattle.std.specs.Prelude.{◌≡◌};
 ghost use Rattle.terminal.specs.Running.{opened, Runs, Finishes};
 
