@@ -13,7 +13,7 @@ use limits::MOST_CORNERS;
 // The sides that a corner lies strictly left of, those that it lies strictly right of, those whose line it lies on
 // without being an end of the side; those that have an end strictly lower than the corner, or further west; and how
 // many of the two sides at the corner another has to lie left of, to be inside the angle.
-#[derive(Drop)]
+#[derive(Clone, Copy)]
 pub struct Known {
     pub left: u64,
     pub right: u64,

@@ -1,0 +1,23 @@
+-- `lanes::lower`: the lanes below x are lowered.
+use mathlib.Core.Path.{◌≡◌}
+use Prim.Native.Nat.{◌≤◌, ◌-◌}
+use lib.ListN.{length, length-set}
+use native.Mathlib.Omega.{arith}
+use borrow.Author.Rules.{rules}
+use Rattle.limits.specs.Limits.{row}
+use Rattle.cutting.proofs.Rows.{Lows, lows_none, lows_more, lows_end}
+use Rattle.cutting.proofs.lanes.lower.Goals as goal
+
+pub loop-x-init : goal.loop-x-init
+loop-x-init c = (omega arith, omega arith, lows_none)
+
+pub loop-x-preserved : goal.loop-x-preserved
+loop-x-preserved c =
+    let loop = c.loop-x in (
+      omega arith,
+      simp length-set (omega arith),
+      lows_more loop.invariant.2 (omega arith) c.cell.ensures c.sum.ensures c.low.ensures,
+    )
+
+pub returns : goal.returns
+returns c = lows_end c.loop-x.invariant.2 (omega arith)

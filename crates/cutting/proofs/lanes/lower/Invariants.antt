@@ -1,0 +1,15 @@
+-- `lanes::lower`: the lanes below x are lowered.
+use mathlib.Core.Path.{◌≡◌}
+use Prim.Native.Nat.{◌≤◌, ◌-◌}
+use lib.ListN.{length, length-set}
+use native.Mathlib.Omega.{arith}
+use borrow.Author.Rules.{rules}
+use Rattle.limits.specs.Limits.{row}
+use Rattle.cutting.proofs.Rows.{Lows, lows_none, lows_more, lows_end}
+use Rattle.cutting.proofs.lanes.lower.Given as goal
+
+abbrev pub invariant-loop-x : goal.invariant-loop-x
+invariant-loop-x l = (l.x ≤ row) × (length l.first ≡ row) × Lows l.initial.first l.first l.col l.b l.v l.x
+
+abbrev pub decreases-loop-x : goal.decreases-loop-x
+decreases-loop-x l = row - l.x

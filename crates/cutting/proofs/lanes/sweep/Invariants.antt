@@ -1,0 +1,16 @@
+-- `lanes::sweep`: the corners before b are tried.
+use mathlib.Core.Path.{◌≡◌}
+use Prim.Native.Nat.{◌≤◌, ◌<◌, ◌-◌}
+use lib.ListN.{length}
+use native.Mathlib.Omega.{arith}
+use borrow.Author.Rules.{rules}
+use Rattle.limits.specs.Limits.{row}
+use Rattle.cutting.specs.Rows.{Swept}
+use Rattle.cutting.proofs.Rows.{swept_none, swept_more, swept_end}
+use Rattle.cutting.proofs.lanes.sweep.Given as goal
+
+abbrev pub invariant-loop-b : goal.invariant-loop-b
+invariant-loop-b l = (l.i < l.b) × (l.b ≤ l.j) × (length l.first ≡ row) × Swept l.val l.col l.i l.b l.first
+
+abbrev pub decreases-loop-b : goal.decreases-loop-b
+decreases-loop-b l = l.j - l.b

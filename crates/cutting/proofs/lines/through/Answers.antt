@@ -1,0 +1,25 @@
+-- `lines::through`: the least of the centres before x.
+use Prim.Native.Nat.{◌+◌, ◌≤◌, ◌<◌, ◌-◌}
+use native.Mathlib.Omega.{arith}
+use borrow.Author.Rules.{rules}
+use Rattle.rules.specs.Cells.{cell}
+use Rattle.rules.specs.Columns.{Least}
+use Rattle.cutting.specs.Rows.{none}
+use Rattle.cutting.proofs.Rows.{least_none, least_more, least_to}
+use Rattle.cutting.proofs.lines.through.Goals as goal
+
+pub loop-x-init : goal.loop-x-init
+loop-x-init c = (omega arith, omega arith, least_none)
+
+pub loop-x-preserved : goal.loop-x-preserved
+loop-x-preserved c =
+    let loop = c.loop-x in (
+      omega arith,
+      omega arith,
+      least_more loop.invariant.2 (omega arith)
+          (omega (arith, c.sum.ensures, c.cell.ensures, c.cell-in-loop-x.ensures))
+          c.low-m.ensures,
+    )
+
+pub returns : goal.returns
+returns c = least_to c.loop-x.invariant.2 (omega arith)

@@ -1,0 +1,14 @@
+-- `pieces::next`: what is found on the road to x, or to j.
+use native.Mathlib.Omega.{arith}
+use borrow.Author.Rules.{rules}
+use borrow.Author.Rules.{rules}
+use Rattle.cutting.proofs.Corners.{found_left, found_right}
+use Rattle.cutting.proofs.pieces.next.Goals as goal
+
+pub returns-then-c-x : goal.returns-then-c-x
+returns-then-c-x c = found_left c.requires.1 c.if-c-x.true c.seek.ensures
+
+pub returns : goal.returns
+returns c =
+    let pre = c.requires in
+    found_right pre.1 pre.2 (omega arith) c.seek-2.ensures

@@ -1,0 +1,38 @@
+-- `tracing::mark`: the lines before c are in the set.
+use Prim.Native.Nat.{◌≤◌, ◌-◌}
+use native.Mathlib.Omega.{arith}
+use Rattle.rules.specs.Follow.{rest_end}
+use Rattle.cutting.specs.Tracing.{rest_in}
+use Rattle.cutting.proofs.Marking.{Marking, marking_none, marking_more, marking_end}
+use Rattle.cutting.proofs.tracing.mark.Goals as goal
+
+pub loop-c-init : goal.loop-c-init
+loop-c-init c = (omega arith, omega arith, marking_none c.requires.3)
+
+pub next-d-requires : goal.next-d-requires
+next-d-requires c =
+    let pre = c.requires in
+    (pre.0, pre.1, omega arith)
+
+pub tick-requires : goal.tick-requires
+tick-requires c =
+    let pre = c.requires in (
+      c.loop-c.invariant.2.ticks,
+      omega (arith, c.next-d.ensures.after, c.loop-c.invariant.0),
+      omega (arith, c.next-d.ensures.within, pre.0.last),
+    )
+
+pub loop-c-smaller : goal.loop-c-smaller
+loop-c-smaller c =
+    omega (arith, c.next-d.ensures.after, c.next-d.ensures.within)
+
+pub loop-c-preserved : goal.loop-c-preserved
+loop-c-preserved c =
+    let loop = c.loop-c in (
+      omega (arith, c.next-d.ensures.after),
+      omega (arith, c.next-d.ensures.within),
+      marking_more _ c.next-d.ensures.rest (omega arith) c.tick.ensures loop.invariant.2,
+    )
+
+pub returns : goal.returns
+returns c = marking_end (rest_end _ _ _ _ _ _ _ _ (omega arith)) c.loop-c.invariant.2

@@ -1,0 +1,13 @@
+-- `tracing::tick`: a side is left out.
+use native.Mathlib.Omega.{arith}
+use borrow.Author.Rules.{rules}
+use Rattle.cutting.proofs.Marking.{ticked_none, ticked_set}
+use Rattle.cutting.proofs.tracing.tick.Goals as goal
+
+pub returns-then-d-c : goal.returns-then-d-c
+returns-then-d-c c = ticked_none (omega arith) c.requires.0
+
+pub returns : goal.returns
+returns c =
+    let pre = c.requires in
+    ticked_set (omega arith) pre.2 pre.0 c.put.ensures

@@ -1,0 +1,17 @@
+-- `tracing::trace_all`: the ranges to a corner from j on have been met.
+use mathlib.Core.Path.{◌≡◌, refl}
+use Prim.Native.Nat.{◌≤◌}
+use lib.ListN.{length}
+use native.Mathlib.Omega.{arith}
+use Rattle.limits.specs.Limits.{row, all_cells}
+use Rattle.cutting.specs.Tracing.{Goes}
+use Rattle.cutting.proofs.Traced.{tracing_at}
+use Rattle.cutting.proofs.tracing.trace_all.Given as goal
+
+abbrev pub invariant-loop-j : goal.invariant-loop-j
+invariant-loop-j l =
+    (l.j ≤ l.n) × (length l.col ≡ all_cells) × (length l.pairs ≡ length l.initial.pairs) ×
+    Goes l.veil l.val l.left l.right l.initial.pairs row l.n l.pairs row l.j
+
+abbrev pub decreases-loop-j : goal.decreases-loop-j
+decreases-loop-j l = l.j

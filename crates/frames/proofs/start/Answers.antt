@@ -1,0 +1,6 @@
+-- `start`.
+use Rattle.std.proofs.Common.{rules}
+use Rattle.frames.proofs.start.Goals as goal
+
+pub returns : goal.returns
+returns c = rw c.blank.ensures

@@ -1,0 +1,47 @@
+-- `decimals::read_wholes` meets its contract.
+use mathlib.Core.Bool.{◌&&◌}
+use mathlib.Core.Path.{subst, sym, ap, ◌∙◌}
+use Prim.Native.Nat.{◌-◌}
+use native.Mathlib.Omega.{arith}
+use lib.IntN.{pos}
+use lib.ListN.{length}
+use mir.Facts.{to_z-of_z}
+use mir.Syntax.{w32}
+use mir.Val.{SFits}
+use Rattle.recorded.specs.Decimals.{whole_at}
+use Rattle.recorded.proofs.Numbers.{whole_fits}
+use Rattle.recorded.proofs.Places.{Read, read_none, read_more, read_all}
+use Rattle.recorded.proofs.decimals.read_wholes.Goals as goal
+
+pub loop-i-init : goal.loop-i-init
+loop-i-init c =
+    let a = c.args in
+    let text = a.text.now in
+    read_none (pos 0) (λ k. (whole_at text k).value) (λ k. (whole_at text k).good) text a.at a.out.now
+
+pub bounds-out-i : goal.bounds-out-i
+bounds-out-i c =
+    omega (arith, c.loop-i.invariant.held.size, c.loop-i-test.true)
+
+pub loop-i-preserved : goal.loop-i-preserved
+unfolding whole_at
+loop-i-preserved c =
+    let a = c.args in
+    let text = a.text.now in
+    let l = c.loop-i in
+    let v = c.read_whole-v.ensures in
+    read_more (pos 0) (λ k. (whole_at text k).value) (λ k. (whole_at text k).good) text a.at a.out.now
+    l.invariant c.loop-i-test.true
+    (to_z-of_z (subst (λ r. SFits w32 r.value) (sym v) (whole_fits text l.p)) ∙ ap (λ r. r.value) v)
+    (ap (λ r. r.next) v) (c.both-good.ensures ∙ ap (λ r. l.good && r.good) v)
+
+pub shape_of-out : goal.shape_of-out
+shape_of-out c = c.loop-i.invariant.held.size
+
+pub returns : goal.returns
+returns c =
+    let a = c.args in
+    let text = a.text.now in
+    let l = c.loop-i in
+    read_all (pos 0) (λ k. (whole_at text k).value) (λ k. (whole_at text k).good) text a.at a.out.now
+    l.invariant c.loop-i-test.false

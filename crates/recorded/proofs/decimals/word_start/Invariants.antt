@@ -1,0 +1,14 @@
+-- `decimals::word_start` meets its contract.
+use mathlib.Core.Path.{◌≡◌, refl}
+use Prim.Native.Nat.{◌+◌, ◌-◌}
+use native.Mathlib.Omega.{arith}
+use lib.ListN.{length, drop}
+use Rattle.recorded.specs.Decimals.{blanks, word_start}
+use Rattle.recorded.proofs.Words.{no_blanks, blanks_stop, blanks_go_on}
+use Rattle.recorded.proofs.decimals.word_start.Given as goal
+
+abbrev pub invariant-loop-i : goal.invariant-loop-i
+invariant-loop-i l = l.i + blanks (drop l.i l.text) ≡ l.at + blanks (drop l.at l.text)
+
+abbrev pub decreases-loop-i : goal.decreases-loop-i
+decreases-loop-i l = length l.text - l.i

@@ -1,0 +1,13 @@
+-- `lent::fill` meets its contract.
+use Prim.Native.Nat.{◌-◌, ◌≤◌}
+use native.Mathlib.Omega.{arith}
+use lib.ListN.{length}
+use Rattle.recorded.specs.Lent.{unwritten}
+use Rattle.recorded.proofs.Places.{Held, held_none, held_more, held_all}
+use Rattle.recorded.proofs.lent.fill.Given as goal
+
+abbrev pub invariant-loop-i : goal.invariant-loop-i
+invariant-loop-i l = Held 0 unwritten l.initial.buffer l.buffer l.i × (l.i ≤ length l.initial.buffer)
+
+abbrev pub decreases-loop-i : goal.decreases-loop-i
+decreases-loop-i l = length l.initial.buffer - l.i
