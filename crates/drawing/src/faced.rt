@@ -8,7 +8,7 @@ use crate::masks::Known;
 use limits::MOST_CORNERS;
 
 // The corners that need two of their sides to have another to the left, and those that need one.
-#[derive(Drop)]
+#[derive(Clone, Copy)]
 pub struct Bends {
     pub two: u64,
     pub one: u64,

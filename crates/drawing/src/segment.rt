@@ -8,7 +8,7 @@ ghost use Rattle.drawing.specs.Meeting.{Reached, Meets};
 ghost use Rattle.outline.specs.FarApart.{Beyond, FarApart};
 ghost use Rattle.drawing.specs.Parts.{point, Close};
 
-#[derive(Drop)]
+#[derive(Clone, Copy)]
 pub struct Place {
     pub x: i64,
     pub y: i64,

@@ -1,0 +1,28 @@
+-- `drawing::masks::away` meets its contract.
+use mathlib.Core.Path.{◌∙◌}
+use lib.IntN.{◌-ℤ◌}
+use mir.Syntax.{w64}
+use borrow.Author.Rules.{rules}
+use Rattle.whole.specs.Bounds.{fit, loc, less, bound}
+use Rattle.drawing.proofs.Machine.{the_x, the_y}
+use Rattle.drawing.proofs.masks.away.Goals as goal
+
+pub overflow_sub-result : goal.overflow_sub-result
+overflow_sub-result c =
+    fit tt (less (the_x c.corner-c.ensures.close) (the_x c.corner-a.ensures.close))
+
+pub overflow_sub-result-2 : goal.overflow_sub-result-2
+overflow_sub-result-2 c =
+    fit tt (less (the_y c.corner-c.ensures.close) (the_y c.corner-a.ensures.close))
+
+pub returns : goal.returns
+returns c =
+    let to = c.corner-c.ensures in
+    let at = c.corner-a.ensures in
+    let x = loc w64 tt (less (the_x to.close) (the_x at.close)) in
+    let y = loc w64 tt (less (the_y to.close) (the_y at.close)) in
+    record {
+      is_x = x.is ∙ (λ i. (to.is i).x -ℤ (at.is i).x);
+      is_y = y.is ∙ (λ i. (to.is i).y -ℤ (at.is i).y);
+      far = record { far-x = bound x; far-y = bound y };
+    }

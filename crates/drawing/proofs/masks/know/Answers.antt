@@ -1,0 +1,181 @@
+-- `drawing::masks::know` meets its contract: after t steps the masks tell of the sides from n - t on.
+use mathlib.Core.Path.{◌≡◌, refl, sym, ap, ◌∙◌, subst}
+use Prim.Native.Nat.{◌+◌, ◌*◌, ◌-◌, ◌%◌, ◌^◌, ◌≤◌, ◌<◌}
+use native.Mathlib.Omega.{arith}
+use lib.Bits.{bit_xor}
+use lib.Dec.{eqb}
+use lib.IntN.{pos}
+use lib.Signed.{lt_z}
+use mir.Syntax.{w64}
+use mir.Val.{of_z}
+use borrow.Author.Rules.{rules}
+use Rattle.whole.specs.Bits.{shifted_one}
+use Rattle.whole.specs.Masks.{Marks, Made, made_none, made_more, made_room, made_all}
+use Rattle.outline.specs.Drawing.{corners, after}
+use Rattle.drawing.specs.Known.{Left, OnLine, Along, Low, West}
+use Rattle.outline.specs.Round.{next_prev, next_down}
+use Rattle.drawing.specs.Away.{Away, cross_turn, less, less_back}
+use Rattle.drawing.specs.Digits.{right_marks, along_marks}
+use Rattle.drawing.proofs.Machine.{back, by_lt, by_nought, held, x_away, y_away}
+use Rattle.drawing.proofs.Machine.{digit, either, either_small, digit_fits, double_fits}
+use Rattle.drawing.proofs.masks.know.Goals as goal
+
+pub away-end-requires : goal.away-end-requires
+away-end-requires c = let h = c.requires in (h.0, h.1, omega (arith, h.0.shaped.enough))
+
+-- the far end of the last side is the first corner
+pub loop-t-init : goal.loop-t-init
+loop-t-init c =
+    let d = c.args.xy.now in (
+      omega arith,
+      made_none,
+      made_none,
+      made_none,
+      made_none,
+      made_none,
+      λ l. subst (λ m. Away d c.args.i m c.away-end.result) (sym (next_prev (corners d) 0 l))
+          c.away-end.ensures,
+    )
+
+-- in a step: there is a side left, and there are no more than 64
+taken : (c : goal.After-cross-s invariant-loop decreases-loop) →
+    c.loop-t.t < corners c.args.xy.now
+taken c = c.loop-t-test.true
+
+few : (c : goal.After-cross-s invariant-loop decreases-loop) → corners c.args.xy.now ≤ 64
+few c = c.requires.0.shaped.few
+
+pub overflow_add-k : goal.overflow_add-k
+overflow_add-k c = omega (arith, c.requires.0.shaped.few, c.loop-t-test.true)
+
+pub overflow_sub-k : goal.overflow_sub-k
+overflow_sub-k c = omega (arith, c.loop-t-test.true)
+
+pub away-start-requires : goal.away-start-requires
+away-start-requires c = let h = c.requires in (h.0, h.1, omega (arith, c.loop-t-test.true))
+
+pub cross-s-requires : goal.cross-s-requires
+cross-s-requires c = (c.away-start.ensures.far, (c.loop-t.invariant.6 c.loop-t-test.true).far)
+
+pub overflow_mul-all : goal.overflow_mul-all
+overflow_mul-all c = record { fits = double_fits (taken c) (few c) c.loop-t.invariant.1 }
+
+pub overflow_add-all : goal.overflow_add-all
+overflow_add-all c =
+    record { fits = made_room {b = 1} (taken c) c.loop-t.invariant.1 (few c) (omega arith) }
+
+pub overflow_mul-left : goal.overflow_mul-left
+overflow_mul-left c = record { fits = double_fits (taken c) (few c) c.loop-t.invariant.2 }
+
+pub overflow_add-left : goal.overflow_add-left
+overflow_add-left c =
+    let left = lt_z (pos 0) (back c.cross-s.result) in
+    record { fits = digit_fits (taken c) (few c) c.loop-t.invariant.2 left }
+
+pub overflow_mul-flat : goal.overflow_mul-flat
+overflow_mul-flat c = record { fits = double_fits (taken c) (few c) c.loop-t.invariant.3 }
+
+pub overflow_add-flat : goal.overflow_add-flat
+overflow_add-flat c =
+    let flat = eqb (of_z w64 c.cross-s.result) 0 in
+    record { fits = digit_fits (taken c) (few c) c.loop-t.invariant.3 flat }
+
+pub overflow_mul-low : goal.overflow_mul-low
+overflow_mul-low c = record { fits = double_fits (taken c) (few c) c.loop-t.invariant.4 }
+
+pub overflow_add-low : goal.overflow_add-low
+overflow_add-low c =
+    let start = lt_z (back c.away-start.result.y) (pos 0) in
+    let end = lt_z (back c.loop-t.end.y) (pos 0) in
+    record { fits = made_room (taken c) c.loop-t.invariant.4 (few c) (either_small start end) }
+
+pub overflow_mul-west : goal.overflow_mul-west
+overflow_mul-west c =
+    record { fits = double_fits (taken c) (few c) c.loop-t.invariant.5 }
+
+pub overflow_add-west : goal.overflow_add-west
+overflow_add-west c =
+    let start = lt_z (back c.away-start.result.x) (pos 0) in
+    let end = lt_z (back c.loop-t.end.x) (pos 0) in
+    record { fits = made_room (taken c) c.loop-t.invariant.5 (few c) (either_small start end) }
+
+pub overflow_step-t : goal.overflow_step-t
+overflow_step-t c =
+    omega (arith, few c, taken c)
+
+pub loop-t-smaller : goal.loop-t-smaller
+loop-t-smaller c =
+    omega (arith, taken c)
+
+pub loop-t-preserved : goal.loop-t-preserved
+loop-t-preserved c =
+    let d = c.args.xy.now in
+    let inv = c.loop-t.invariant in
+    let l = c.loop-t-test.true in
+    let start = c.away-start.ensures in
+    let end = inv.6 l in
+    let is = held c.cross-s.type-inv (c.cross-s.ensures ∙ cross_turn start end) in (
+      omega (arith, l),
+      made_more l inv.1 (record { small = omega arith; one = λ e. refl; nought = λ e. absurd (omega arith) }),
+      made_more l inv.2 (digit (by_lt refl is (λ h. h) (λ h. h))),
+      made_more l inv.3 (digit (by_nought c.cross-s.type-inv (c.cross-s.ensures ∙ cross_turn start end))),
+      made_more l inv.4
+          (either (by_lt (y_away start.far).is refl (less start.is_y) (less_back start.is_y))
+          (by_lt (y_away end.far).is refl (less end.is_y) (less_back end.is_y))),
+      made_more l inv.5
+          (either (by_lt (x_away start.far).is refl (less start.is_x) (less_back start.is_x))
+          (by_lt (x_away end.far).is refl (less end.is_x) (less_back end.is_x))),
+      λ more. subst (λ m. Away d c.args.i m c.away-start.result) (sym (next_down (corners d) _ more)) start,
+    )
+
+-- the two sides that end at i are sides
+sides : (c : goal.After-prev-h invariant-loop decreases-loop) →
+    (c.prev-h.result < 64) × (c.args.i < 64)
+sides c =
+    let h = c.requires in
+    (omega (arith, c.prev-h.ensures.below, h.0.shaped.few), omega (arith, h.1, h.0.shaped.few))
+
+pub overflow_shl-before : goal.overflow_shl-before
+overflow_shl-before c = (sides c).0
+
+pub overflow_shl-after : goal.overflow_shl-after
+overflow_shl-after c = (sides c).1
+
+-- all sides have been looked at
+every : (c : goal.After-prev-h invariant-loop decreases-loop) →
+    c.loop-t.t ≡ corners c.args.xy.now
+every c = omega (arith, c.loop-t.invariant.0, c.loop-t-test.false)
+
+flat : (c : goal.After-prev-h invariant-loop decreases-loop) →
+    let s = c.args in
+    Marks (corners s.xy.now) c.loop-t.flat (OnLine s.xy.now s.i)
+flat c = let e = every c in made_all (rw e at c.loop-t.invariant.3)
+
+along : (c : goal.After-prev-h invariant-loop decreases-loop) →
+    let s = c.args in
+    let before = 1 * 2 ^ c.prev-h.result % 2 ^ 64 in
+    let after = 1 * 2 ^ s.i % 2 ^ 64 in
+    Marks (corners s.xy.now) (bit_xor (bit_xor c.loop-t.flat before) after)
+    (Along s.xy.now s.i)
+along c =
+    let before = shifted_one c.prev-h.result (sides c).0 ∙ ap (λ y. 2 ^ y) c.prev-h.ensures.is in
+    rw (before, shifted_one c.args.i (sides c).1)
+    (along_marks c.args.xy.now c.args.i c.requires.1 (omega (arith, c.requires.0.shaped.enough)) (flat c))
+
+pub need-need-requires : goal.need-need-requires
+need-need-requires c = let h = c.requires in (h.0, h.1)
+
+pub returns : goal.returns
+returns c =
+    let loop = c.loop-t in
+    let e = every c in
+    let left = made_all (rw e at loop.invariant.2) in
+    record {
+      left-of = left;
+      right_of = right_marks c.args.xy.now c.args.i (made_all (rw e at loop.invariant.1)) left (flat c);
+      along-of = along c;
+      low_of = made_all (rw e at loop.invariant.4);
+      west-of = made_all (rw e at loop.invariant.5);
+      left-fits = let m = rw e at loop.invariant.2 in m.fits;
+      needs = c.need-need.ensures;
+    }

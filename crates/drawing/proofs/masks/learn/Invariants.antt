@@ -1,0 +1,16 @@
+-- `drawing::masks::learn` meets its contract: what the corners before i know is there.
+use mathlib.Core.Path.{◌≡◌, refl}
+use Prim.Native.Nat.{◌-◌, ◌≤◌, ◌<◌}
+use native.Mathlib.Omega.{arith}
+use lib.ListN.{length, length-set}
+use Rattle.limits.specs.Limits.{most_corners}
+use Rattle.outline.specs.Drawing.{corners}
+use Rattle.drawing.specs.Known.{AllKnown}
+use Rattle.drawing.proofs.Learning.{known_more}
+use Rattle.drawing.proofs.masks.learn.Given as goal
+
+abbrev pub invariant-loop-i : goal.invariant-loop-i
+invariant-loop-i l = (l.i ≤ corners l.xy) × AllKnown l.xy l.i l.known × (length l.known ≡ most_corners)
+
+abbrev pub decreases-loop-i : goal.decreases-loop-i
+decreases-loop-i l = corners l.xy - l.i

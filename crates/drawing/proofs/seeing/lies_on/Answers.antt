@@ -1,0 +1,31 @@
+-- `drawing::seeing::lies_on` meets its contract.
+use mathlib.Core.Path.{◌≡◌, refl, ap, ◌∙◌}
+use lib.IntN.{pos}
+use mir.Syntax.{w64}
+use mir.Val.{of_z}
+use borrow.Author.Rules.{rules}
+use Rattle.outline.specs.Drawing.{corner, turn_of}
+use Rattle.outline.specs.Tells.{never}
+use Rattle.outline.specs.Placed.{dot_on, on_dot}
+use Rattle.drawing.proofs.Machine.{by_le, held, same_bits, dot_same, turn_same}
+use Rattle.drawing.proofs.seeing.lies_on.Goals as goal
+
+-- the turn of corner k from ij
+line : (c : goal.After-turn) →
+    let s = c.args in
+    c.turn.result ≡ turn_of (corner s.xy.now s.i) (corner s.xy.now s.j) (corner s.xy.now s.k)
+line c =
+    c.turn.ensures ∙
+    turn_same c.corner-a.ensures.is c.corner-b.ensures.is
+    c.corner-c.ensures.is
+
+pub returns-then-turn-eq0 : goal.returns-then-turn-eq0
+returns-then-turn-eq0 c =
+    let flat = same_bits (held c.turn.type-inv (line c)) refl c.if-turn-eq0.true in
+    let e = c.dot.ensures ∙
+    dot_same c.corner-c.ensures.is c.corner-a.ensures.is
+    c.corner-b.ensures.is in
+    by_le (held c.dot.type-inv e) refl (dot_on flat) on_dot
+
+pub returns-else-turn-eq0 : goal.returns-else-turn-eq0
+returns-else-turn-eq0 c = never (λ o. c.if-turn-eq0.false (ap (of_z w64) (line c ∙ o.line)))

@@ -1,0 +1,30 @@
+-- `drawing::seeing::meet_side` meets its contract.
+use mathlib.Core.Path.{◌≡◌, ap, ◌∙◌}
+use borrow.Author.Rules.{rules}
+use Rattle.outline.specs.Drawing.{corner, after}
+use Rattle.drawing.specs.Parts.{point}
+use Rattle.drawing.specs.Looking.{open_reached}
+use Rattle.drawing.proofs.Machine.{reached_as, meets_as}
+use Rattle.drawing.proofs.seeing.meet_side.Goals as goal
+
+-- the far end of side k, as the drawing has it
+d-is : (c : goal.After-corner-d) →
+    let s = c.args in
+    point c.corner-d.result ≡ corner s.xy.now (after s.xy.now s.k)
+d-is c =
+    c.corner-d.ensures.is ∙ ap (corner c.args.xy.now) c.next-m.ensures.is
+
+pub meet-requires : goal.meet-requires
+meet-requires c =
+    record { close = (
+        c.corner-a.ensures.close,
+        c.corner-b.ensures.close,
+        c.corner-c.ensures.close,
+        c.corner-d.ensures.close,
+      ); reached = reached_as c.corner-a.ensures.is c.corner-b.ensures.is c.corner-c.ensures.is (d-is c)
+          (open_reached c.args.xy.now c.args.i c.args.j c.args.k c.requires.fact) }
+
+pub returns : goal.returns
+returns c =
+    meets_as c.corner-a.ensures.is c.corner-b.ensures.is c.corner-c.ensures.is (d-is c)
+    c.meet.result c.meet.ensures

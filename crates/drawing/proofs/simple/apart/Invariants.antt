@@ -1,0 +1,14 @@
+-- `drawing::simple::apart` meets its contract: side i is apart from every side passed.
+use Prim.Native.Nat.{ℕ, ◌≤◌, ◌<◌, ◌-◌}
+use native.Mathlib.Omega.{arith}
+use borrow.Author.Tests.{not-true, not-false}
+use borrow.Author.Count.{below_more}
+use Rattle.outline.specs.Tells.{if_yes, if_no, surely, never}
+use Rattle.outline.specs.Sides.{SidesApart}
+use Rattle.drawing.proofs.simple.apart.Given as goal
+
+abbrev pub invariant-loop-j : goal.invariant-loop-j
+invariant-loop-j l = (l.j ≤ l.i) × ((m : ℕ) → m < l.j → SidesApart l.xy l.i m)
+
+abbrev pub decreases-loop-j : goal.decreases-loop-j
+decreases-loop-j l = l.i - l.j

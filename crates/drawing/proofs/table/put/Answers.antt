@@ -1,0 +1,8 @@
+-- `drawing::table::put` meets its contract.
+use native.Mathlib.Omega.{arith}
+use lib.ListN.{length-set}
+use borrow.Author.Rules.{rules}
+use Rattle.drawing.proofs.table.put.Goals as goal
+
+pub bounds-cells-j : goal.bounds-cells-j
+bounds-cells-j c = simp length-set (omega arith)
