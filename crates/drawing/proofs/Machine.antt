@@ -41,7 +41,7 @@ back z = to_z w64 (of_z w64 z)
 
 -- a result that is known, held in a local
 pub held : {r x : ℤ} → mag r < 2 ^ 63 → r ≡ x → back r ≡ x
-held ok e = to_z-of_z (sfits_of ok) ∙ e
+held ok e = to_z-of_z {w = w64} (sfits_of ok) ∙ e
 
 -- `==` compares the bits
 pub same_bits : {m n : ℕ} {x y : ℤ} → to_z w64 m ≡ x → to_z w64 n ≡ y → m ≡ n → x ≡ y
@@ -56,11 +56,11 @@ abbrev pub Coordinate : List ℤ → ℕ → Type 0
 Coordinate d k = Val (to_z w32 (of_z w32 (get_or d k (pos 0)))) (get_or d k (pos 0)) furthest
 
 pub coordinate : (d : List ℤ) (k : ℕ) → InRange d → k < length d → mag (get_or d k (pos 0)) < 2 ^ 31 → Coordinate d k
-coordinate d k l h f = par (sfits_of f) (near_of furthest (get_or d k (pos 0)) (l.low k h) (l.high k h))
+coordinate d k l h f = par {w = w32} (sfits_of f) (near_of furthest (get_or d k (pos 0)) (l.low k h) (l.high k h))
 
 -- and one that is held
 own : {x : ℤ} → nat_abs x ≤ furthest → Val (back x) x furthest
-own {x} h = par (fit {z = x} tt (record { is = refl; below = h })) h
+own {x} h = par {w = w64} (fit {z = x} (tt {0}) (record { is = refl; below = h })) h
 
 module _ {p : Point} (h : Close p) where
   pub the_x : Val (back p.x) p.x furthest
@@ -72,10 +72,10 @@ module _ {p : Point} (h : Close p) where
 -- a coordinate from another corner
 module _ {p : Place} (h : Far p) where
   pub x_away : Val (back p.x) p.x (2 * furthest)
-  x_away = par (fit {z = p.x} tt (record { is = refl; below = h.far_x })) h.far_x
+  x_away = par {w = w64} (fit {z = p.x} (tt {0}) (record { is = refl; below = h.far_x })) h.far_x
 
   pub y_away : Val (back p.y) p.y (2 * furthest)
-  y_away = par (fit {z = p.y} tt (record { is = refl; below = h.far_y })) h.far_y
+  y_away = par {w = w64} (fit {z = p.y} (tt {0}) (record { is = refl; below = h.far_y })) h.far_y
 
 -- the product of two differences, each held in a local
 pub product : {z x u y s a t b : ℤ} → Val z x furthest → Val u y furthest → Val s a furthest → Val t b furthest →

@@ -12,46 +12,77 @@ use Rattle.drawing.proofs.Machine.{held}
 use Rattle.drawing.proofs.judge.Goals as goal
 
 pub returns-then-not-shaped : goal.returns-then-not-shaped
-returns-then-not-shaped c = judgement _ _ (if_no c.shaped.ensures (not-true _ c.if-not-shaped.true))
-
-shaped : (c : goal.Else-not-shaped) → Shaped c.args.xy.now
-shaped c = if_yes c.shaped.ensures (not-false _ c.if-not-shaped.false)
+returns-then-not-shaped c = judgement _ _ (if_no c.shaped.ensures c.if-not-shaped.true)
 
 pub returns-then-not-in_range : goal.returns-then-not-in_range
 returns-then-not-in_range c =
-    judgement _ _ (shaped c, if_no c.in_range.ensures (not-true _ c.if-not-in_range.true))
-
-limits : (c : goal.Else-not-in_range) → Limits c.args.xy.now
-limits c = record {
-  shaped = shaped c;
-  in-range = if_yes c.in_range.ensures (not-false _ c.if-not-in_range.false);
-}
+    let shaped : Shaped c.args.xy.now =
+        if_yes c.shaped.ensures c.if-not-shaped.false in
+    judgement _ _ (shaped, if_no c.in_range.ensures c.if-not-in_range.true)
 
 pub simple-simple-requires : goal.simple-simple-requires
-simple-simple-requires c = limits c
+simple-simple-requires c =
+    let shaped : Shaped c.args.xy.now =
+        if_yes c.shaped.ensures c.if-not-shaped.false in
+    let limits : Limits c.args.xy.now =
+        record {
+      shaped = shaped;
+      in_range = if_yes c.in_range.ensures c.if-not-in_range.false;
+    } in
+    limits
 
 pub doubled_area-area-requires : goal.doubled_area-area-requires
-doubled_area-area-requires c = limits c
-
-simple : (c : goal.Else-not-simple) → Simple c.args.xy.now
-simple c = if_yes c.simple-simple.ensures (not-false _ c.if-not-simple.false)
+doubled_area-area-requires c =
+    let shaped : Shaped c.args.xy.now =
+        if_yes c.shaped.ensures c.if-not-shaped.false in
+    let limits : Limits c.args.xy.now =
+        record {
+      shaped = shaped;
+      in_range = if_yes c.in_range.ensures c.if-not-in_range.false;
+    } in
+    limits
 
 pub returns-then-not-simple : goal.returns-then-not-simple
 returns-then-not-simple c =
-    let l = limits c in
-    judgement _ _ (l.shaped, l.in-range, if_no c.simple-simple.ensures (not-true _ c.if-not-simple.true))
+    let shaped : Shaped c.args.xy.now =
+        if_yes c.shaped.ensures c.if-not-shaped.false in
+    let limits : Limits c.args.xy.now =
+        record {
+      shaped = shaped;
+      in_range = if_yes c.in_range.ensures c.if-not-in_range.false;
+    } in
+    let l = limits in
+    judgement _ _ (l.shaped, l.in_range, if_no c.simple-simple.ensures c.if-not-simple.true)
 
 pub returns-then-area-le0 : goal.returns-then-area-le0
 returns-then-area-le0 c =
-    let l = limits c in
+    let shaped : Shaped c.args.xy.now =
+        if_yes c.shaped.ensures c.if-not-shaped.false in
+    let limits : Limits c.args.xy.now =
+        record {
+      shaped = shaped;
+      in_range = if_yes c.in_range.ensures c.if-not-in_range.false;
+    } in
+    let simple : Simple c.args.xy.now =
+        if_yes c.simple-simple.ensures c.if-not-simple.false in
+    let l = limits in
     let area = c.doubled_area-area in
-    let right = le_yes (held area.type-inv area.ensures) refl c.if-area-le0.true in
-    judgement _ _ (l.shaped, l.in-range, simple c, λ h. clash_ℤ h right)
+    let right = le_yes (held area.type_inv area.ensures) refl c.if-area-le0.true in
+    judgement _ _ (l.shaped, l.in_range, simple, λ h. clash_ℤ h right)
 
 pub returns : goal.returns
 returns c =
-    let l = limits c in
+    let shaped : Shaped c.args.xy.now =
+        if_yes c.shaped.ensures c.if-not-shaped.false in
+    let limits : Limits c.args.xy.now =
+        record {
+      shaped = shaped;
+      in_range = if_yes c.in_range.ensures c.if-not-in_range.false;
+    } in
+    let simple : Simple c.args.xy.now =
+        if_yes c.simple-simple.ensures c.if-not-simple.false in
+    let l = limits in
     let area = c.doubled_area-area in
-    let left = le_no (held area.type-inv area.ensures) refl c.if-area-le0.false in
+    let left = le_no (held area.type_inv area.ensures) refl c.if-area-le0.false in
     judgement _ _
-    (record { shaped = l.shaped; in-range = l.in-range; simple = simple c; anticlockwise = left })
+    (record { shaped = l.shaped; in_range = l.in_range; simple = simple; anticlockwise = left })

@@ -18,21 +18,16 @@ loop-rest-init c = (scan_start c.ranges.along.fits, row_begin c.requires.marks)
 pub overflow_cast-k : goal.overflow_cast-k
 overflow_cast-k c = let l = mark_below c.loop-rest.invariant.0 c.loop-rest-test.true in omega (arith, l)
 
--- the next mark is a side along whose line i lies
-here : (c : goal.In-loop-rest invariant-loop decreases-loop) →
-    let s = c.args in
-    let k = mark c.loop-rest.rest in
-    (k < corners s.xy.now) × Along s.xy.now s.i k
-here c = c.requires.marks.yes _ (scan_mark c.loop-rest.invariant.0 c.loop-rest-test.true)
-
--- there is room still
-room : (c : goal.In-loop-rest invariant-loop decreases-loop) → all_cells ≤ length c.loop-rest.cells
-room c = omega (arith, c.requires.limits.3, c.loop-rest.invariant.1.size)
-
 pub along_side-requires : goal.along_side-requires
 along_side-requires c =
+    let here : let s = c.args in
+        let k = mark c.loop-rest.rest in
+        (k < corners s.xy.now) × Along s.xy.now s.i k =
+        c.requires.marks.yes _ (scan_mark c.loop-rest.invariant.0 c.loop-rest-test.true) in
+    let room : all_cells ≤ length c.loop-rest.cells =
+        omega (arith, c.requires.limits.3, c.loop-rest.invariant.1.size) in
     let h = c.requires.limits in
-    record { limits = (h.0, h.1, h.2, room c); k_bound = here c }
+    record { limits = (h.0, h.1, h.2, room); k_bound = here }
 
 pub overflow_sub-rest : goal.overflow_sub-rest
 overflow_sub-rest c = let n = c.loop-rest-test.true in omega (arith, n)
@@ -43,10 +38,16 @@ loop-rest-smaller c =
 
 pub loop-rest-preserved : goal.loop-rest-preserved
 loop-rest-preserved c =
+    let here : let s = c.args in
+        let k = mark c.loop-rest.rest in
+        (k < corners s.xy.now) × Along s.xy.now s.i k =
+        c.requires.marks.yes _ (scan_mark c.loop-rest.invariant.0 c.loop-rest-test.true) in
+    let room : all_cells ≤ length c.loop-rest.cells =
+        omega (arith, c.requires.limits.3, c.loop-rest.invariant.1.size) in
     let h = c.requires.limits in
     let inv = c.loop-rest.invariant in
     let n = c.loop-rest-test.true in
-    let next = side_begun h.1 h.2 _ _ (here c).0 (here c).1 inv.0.fits n refl _ _ (room c)
+    let next = side_begun h.1 h.2 _ _ here.0 here.1 inv.0.fits n refl _ _ room
     c.along_side.ensures in
     (scan_more inv.0 n refl, grows_on inv.1 next)
 

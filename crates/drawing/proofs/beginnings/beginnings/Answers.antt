@@ -13,15 +13,17 @@ use Rattle.drawing.proofs.beginnings.beginnings.Goals as goal
 pub loop-i-init : goal.loop-i-init
 loop-i-init c = (omega arith, begun_first)
 
--- there are no more corners than the list has room for
-few : (c : goal.In-loop-i invariant-loop decreases-loop) → c.loop-i.i < 64
-few c = omega (arith, c.requires.limits.0.shaped.few, c.loop-i-test.true)
-
 pub offset_bounds-known-i : goal.offset_bounds-known-i
-offset_bounds-known-i c = omega (arith, few c)
+offset_bounds-known-i c =
+    let few : c.loop-i.i < 64 =
+        omega (arith, c.requires.limits.0.shaped.few, c.loop-i-test.true) in
+    omega (arith, few)
 
 pub bounds-known-i : goal.bounds-known-i
-bounds-known-i c = few c
+bounds-known-i c =
+    let few : c.loop-i.i < 64 =
+        omega (arith, c.requires.limits.0.shaped.few, c.loop-i-test.true) in
+    few
 
 pub along_sides-requires : goal.along_sides-requires
 along_sides-requires c =
@@ -31,7 +33,10 @@ along_sides-requires c =
     record { limits = (h.limits.0, h.limits.1, l, room); marks = (h.limits.2 _ l).along_of }
 
 pub overflow_step-i : goal.overflow_step-i
-overflow_step-i c = omega (arith, few c)
+overflow_step-i c =
+    let few : c.loop-i.i < 64 =
+        omega (arith, c.requires.limits.0.shaped.few, c.loop-i-test.true) in
+    omega (arith, few)
 
 pub loop-i-smaller : goal.loop-i-smaller
 loop-i-smaller c = omega (arith, c.loop-i-test.true)

@@ -24,16 +24,14 @@ offset_bounds-known-j c = omega (arith, c.requires, c.loop-t-test.true)
 pub bounds-known-j : goal.bounds-known-j
 bounds-known-j c = omega (arith, c.requires, c.loop-t-test.true)
 
--- what corner j needs
-abbrev need : goal.In-loop-t invariant-loop decreases-loop → ℕ
-need c = need_of c.args.t1 (c.args.n - (c.loop-t.t + 1))
-
 pub overflow_mul-two : goal.overflow_mul-two
 overflow_mul-two c = record { fits = double_fits c.loop-t-test.true c.requires c.loop-t.invariant.1 }
 
 pub overflow_add-two : goal.overflow_add-two
 overflow_add-two c =
-    let two = eqb (need c) 2 in
+    let need : ℕ =
+        need_of c.args.known (c.args.n - (c.loop-t.t + 1)) in
+    let two = eqb need 2 in
     record { fits = digit_fits c.loop-t-test.true c.requires c.loop-t.invariant.1 two }
 
 pub overflow_mul-one : goal.overflow_mul-one
@@ -41,7 +39,9 @@ overflow_mul-one c = record { fits = double_fits c.loop-t-test.true c.requires c
 
 pub overflow_add-one : goal.overflow_add-one
 overflow_add-one c =
-    let one = eqb (need c) 1 in
+    let need : ℕ =
+        need_of c.args.known (c.args.n - (c.loop-t.t + 1)) in
+    let one = eqb need 1 in
     record { fits = digit_fits c.loop-t-test.true c.requires c.loop-t.invariant.2 one }
 
 pub overflow_step-t : goal.overflow_step-t

@@ -24,5 +24,5 @@ returns c =
     record {
       is_x = x.is ∙ (λ i. (to.is i).x -ℤ (at.is i).x);
       is_y = y.is ∙ (λ i. (to.is i).y -ℤ (at.is i).y);
-      far = record { far-x = bound x; far-y = bound y };
+      far = record { far_x = bound x; far_y = bound y };
     }

@@ -37,14 +37,6 @@ loop-t-init c =
           c.away-end.ensures,
     )
 
--- in a step: there is a side left, and there are no more than 64
-taken : (c : goal.After-cross-s invariant-loop decreases-loop) →
-    c.loop-t.t < corners c.args.xy.now
-taken c = c.loop-t-test.true
-
-few : (c : goal.After-cross-s invariant-loop decreases-loop) → corners c.args.xy.now ≤ 64
-few c = c.requires.0.shaped.few
-
 pub overflow_add-k : goal.overflow_add-k
 overflow_add-k c = omega (arith, c.requires.0.shaped.few, c.loop-t-test.true)
 
@@ -58,54 +50,104 @@ pub cross-s-requires : goal.cross-s-requires
 cross-s-requires c = (c.away-start.ensures.far, (c.loop-t.invariant.6 c.loop-t-test.true).far)
 
 pub overflow_mul-all : goal.overflow_mul-all
-overflow_mul-all c = record { fits = double_fits (taken c) (few c) c.loop-t.invariant.1 }
+overflow_mul-all c =
+    let taken : c.loop-t.t < corners c.args.xy.now =
+        c.loop-t-test.true in
+    let few : corners c.args.xy.now ≤ 64 =
+        c.requires.0.shaped.few in
+    record { fits = double_fits taken few c.loop-t.invariant.1 }
 
 pub overflow_add-all : goal.overflow_add-all
 overflow_add-all c =
-    record { fits = made_room {b = 1} (taken c) c.loop-t.invariant.1 (few c) (omega arith) }
+    let taken : c.loop-t.t < corners c.args.xy.now =
+        c.loop-t-test.true in
+    let few : corners c.args.xy.now ≤ 64 =
+        c.requires.0.shaped.few in
+    record { fits = made_room {b = 1} taken c.loop-t.invariant.1 few (omega arith) }
 
 pub overflow_mul-left : goal.overflow_mul-left
-overflow_mul-left c = record { fits = double_fits (taken c) (few c) c.loop-t.invariant.2 }
+overflow_mul-left c =
+    let taken : c.loop-t.t < corners c.args.xy.now =
+        c.loop-t-test.true in
+    let few : corners c.args.xy.now ≤ 64 =
+        c.requires.0.shaped.few in
+    record { fits = double_fits taken few c.loop-t.invariant.2 }
 
 pub overflow_add-left : goal.overflow_add-left
 overflow_add-left c =
+    let taken : c.loop-t.t < corners c.args.xy.now =
+        c.loop-t-test.true in
+    let few : corners c.args.xy.now ≤ 64 =
+        c.requires.0.shaped.few in
     let left = lt_z (pos 0) (back c.cross-s.result) in
-    record { fits = digit_fits (taken c) (few c) c.loop-t.invariant.2 left }
+    record { fits = digit_fits taken few c.loop-t.invariant.2 left }
 
 pub overflow_mul-flat : goal.overflow_mul-flat
-overflow_mul-flat c = record { fits = double_fits (taken c) (few c) c.loop-t.invariant.3 }
+overflow_mul-flat c =
+    let taken : c.loop-t.t < corners c.args.xy.now =
+        c.loop-t-test.true in
+    let few : corners c.args.xy.now ≤ 64 =
+        c.requires.0.shaped.few in
+    record { fits = double_fits taken few c.loop-t.invariant.3 }
 
 pub overflow_add-flat : goal.overflow_add-flat
 overflow_add-flat c =
+    let taken : c.loop-t.t < corners c.args.xy.now =
+        c.loop-t-test.true in
+    let few : corners c.args.xy.now ≤ 64 =
+        c.requires.0.shaped.few in
     let flat = eqb (of_z w64 c.cross-s.result) 0 in
-    record { fits = digit_fits (taken c) (few c) c.loop-t.invariant.3 flat }
+    record { fits = digit_fits taken few c.loop-t.invariant.3 flat }
 
 pub overflow_mul-low : goal.overflow_mul-low
-overflow_mul-low c = record { fits = double_fits (taken c) (few c) c.loop-t.invariant.4 }
+overflow_mul-low c =
+    let taken : c.loop-t.t < corners c.args.xy.now =
+        c.loop-t-test.true in
+    let few : corners c.args.xy.now ≤ 64 =
+        c.requires.0.shaped.few in
+    record { fits = double_fits taken few c.loop-t.invariant.4 }
 
 pub overflow_add-low : goal.overflow_add-low
 overflow_add-low c =
+    let taken : c.loop-t.t < corners c.args.xy.now =
+        c.loop-t-test.true in
+    let few : corners c.args.xy.now ≤ 64 =
+        c.requires.0.shaped.few in
     let start = lt_z (back c.away-start.result.y) (pos 0) in
     let end = lt_z (back c.loop-t.end.y) (pos 0) in
-    record { fits = made_room (taken c) c.loop-t.invariant.4 (few c) (either_small start end) }
+    record { fits = made_room taken c.loop-t.invariant.4 few (either_small start end) }
 
 pub overflow_mul-west : goal.overflow_mul-west
 overflow_mul-west c =
-    record { fits = double_fits (taken c) (few c) c.loop-t.invariant.5 }
+    let taken : c.loop-t.t < corners c.args.xy.now =
+        c.loop-t-test.true in
+    let few : corners c.args.xy.now ≤ 64 =
+        c.requires.0.shaped.few in
+    record { fits = double_fits taken few c.loop-t.invariant.5 }
 
 pub overflow_add-west : goal.overflow_add-west
 overflow_add-west c =
+    let taken : c.loop-t.t < corners c.args.xy.now =
+        c.loop-t-test.true in
+    let few : corners c.args.xy.now ≤ 64 =
+        c.requires.0.shaped.few in
     let start = lt_z (back c.away-start.result.x) (pos 0) in
     let end = lt_z (back c.loop-t.end.x) (pos 0) in
-    record { fits = made_room (taken c) c.loop-t.invariant.5 (few c) (either_small start end) }
+    record { fits = made_room taken c.loop-t.invariant.5 few (either_small start end) }
 
 pub overflow_step-t : goal.overflow_step-t
 overflow_step-t c =
-    omega (arith, few c, taken c)
+    let taken : c.loop-t.t < corners c.args.xy.now =
+        c.loop-t-test.true in
+    let few : corners c.args.xy.now ≤ 64 =
+        c.requires.0.shaped.few in
+    omega (arith, few, taken)
 
 pub loop-t-smaller : goal.loop-t-smaller
 loop-t-smaller c =
-    omega (arith, taken c)
+    let taken : c.loop-t.t < corners c.args.xy.now =
+        c.loop-t-test.true in
+    omega (arith, taken)
 
 pub loop-t-preserved : goal.loop-t-preserved
 loop-t-preserved c =
@@ -114,11 +156,11 @@ loop-t-preserved c =
     let l = c.loop-t-test.true in
     let start = c.away-start.ensures in
     let end = inv.6 l in
-    let is = held c.cross-s.type-inv (c.cross-s.ensures ∙ cross_turn start end) in (
+    let is = held c.cross-s.type_inv (c.cross-s.ensures ∙ cross_turn start end) in (
       omega (arith, l),
       made_more l inv.1 (record { small = omega arith; one = λ e. refl; nought = λ e. absurd (omega arith) }),
       made_more l inv.2 (digit (by_lt refl is (λ h. h) (λ h. h))),
-      made_more l inv.3 (digit (by_nought c.cross-s.type-inv (c.cross-s.ensures ∙ cross_turn start end))),
+      made_more l inv.3 (digit (by_nought c.cross-s.type_inv (c.cross-s.ensures ∙ cross_turn start end))),
       made_more l inv.4
           (either (by_lt (y_away start.far).is refl (less start.is_y) (less_back start.is_y))
           (by_lt (y_away end.far).is refl (less end.is_y) (less_back end.is_y))),
@@ -128,54 +170,50 @@ loop-t-preserved c =
       λ more. subst (λ m. Away d c.args.i m c.away-start.result) (sym (next_down (corners d) _ more)) start,
     )
 
--- the two sides that end at i are sides
-sides : (c : goal.After-prev-h invariant-loop decreases-loop) →
-    (c.prev-h.result < 64) × (c.args.i < 64)
-sides c =
-    let h = c.requires in
-    (omega (arith, c.prev-h.ensures.below, h.0.shaped.few), omega (arith, h.1, h.0.shaped.few))
-
 pub overflow_shl-before : goal.overflow_shl-before
-overflow_shl-before c = (sides c).0
+overflow_shl-before c =
+    let sides : (c.prev-h.result < 64) × (c.args.i < 64) =
+        let h = c.requires in
+        (omega (arith, c.prev-h.ensures.below, h.0.shaped.few), omega (arith, h.1, h.0.shaped.few)) in
+    sides.0
 
 pub overflow_shl-after : goal.overflow_shl-after
-overflow_shl-after c = (sides c).1
-
--- all sides have been looked at
-every : (c : goal.After-prev-h invariant-loop decreases-loop) →
-    c.loop-t.t ≡ corners c.args.xy.now
-every c = omega (arith, c.loop-t.invariant.0, c.loop-t-test.false)
-
-flat : (c : goal.After-prev-h invariant-loop decreases-loop) →
-    let s = c.args in
-    Marks (corners s.xy.now) c.loop-t.flat (OnLine s.xy.now s.i)
-flat c = let e = every c in made_all (rw e at c.loop-t.invariant.3)
-
-along : (c : goal.After-prev-h invariant-loop decreases-loop) →
-    let s = c.args in
-    let before = 1 * 2 ^ c.prev-h.result % 2 ^ 64 in
-    let after = 1 * 2 ^ s.i % 2 ^ 64 in
-    Marks (corners s.xy.now) (bit_xor (bit_xor c.loop-t.flat before) after)
-    (Along s.xy.now s.i)
-along c =
-    let before = shifted_one c.prev-h.result (sides c).0 ∙ ap (λ y. 2 ^ y) c.prev-h.ensures.is in
-    rw (before, shifted_one c.args.i (sides c).1)
-    (along_marks c.args.xy.now c.args.i c.requires.1 (omega (arith, c.requires.0.shaped.enough)) (flat c))
+overflow_shl-after c =
+    let sides : (c.prev-h.result < 64) × (c.args.i < 64) =
+        let h = c.requires in
+        (omega (arith, c.prev-h.ensures.below, h.0.shaped.few), omega (arith, h.1, h.0.shaped.few)) in
+    sides.1
 
 pub need-need-requires : goal.need-need-requires
 need-need-requires c = let h = c.requires in (h.0, h.1)
 
 pub returns : goal.returns
 returns c =
+    let sides : (c.prev-h.result < 64) × (c.args.i < 64) =
+        let h = c.requires in
+        (omega (arith, c.prev-h.ensures.below, h.0.shaped.few), omega (arith, h.1, h.0.shaped.few)) in
+    let every : c.loop-t.t ≡ corners c.args.xy.now =
+        omega (arith, c.loop-t.invariant.0, c.loop-t-test.false) in
+    let flat : let s = c.args in
+        Marks (corners s.xy.now) c.loop-t.flat (OnLine s.xy.now s.i) =
+        let e = every in made_all (rw e at c.loop-t.invariant.3) in
+    let along : let s = c.args in
+        let before = 1 * 2 ^ c.prev-h.result % 2 ^ 64 in
+        let after = 1 * 2 ^ s.i % 2 ^ 64 in
+        Marks (corners s.xy.now) (bit_xor (bit_xor c.loop-t.flat before) after)
+        (Along s.xy.now s.i) =
+        let before = shifted_one c.prev-h.result sides.0 ∙ ap (λ y. 2 ^ y) c.prev-h.ensures.is in
+        rw (before, shifted_one c.args.i sides.1)
+        (along_marks c.args.xy.now c.args.i c.requires.1 (omega (arith, c.requires.0.shaped.enough)) flat) in
     let loop = c.loop-t in
-    let e = every c in
+    let e = every in
     let left = made_all (rw e at loop.invariant.2) in
     record {
-      left-of = left;
-      right_of = right_marks c.args.xy.now c.args.i (made_all (rw e at loop.invariant.1)) left (flat c);
-      along-of = along c;
+      left_of = left;
+      right_of = right_marks c.args.xy.now c.args.i (made_all (rw e at loop.invariant.1)) left flat;
+      along_of = along;
       low_of = made_all (rw e at loop.invariant.4);
-      west-of = made_all (rw e at loop.invariant.5);
-      left-fits = let m = rw e at loop.invariant.2 in m.fits;
+      west_of = made_all (rw e at loop.invariant.5);
+      left_fits = let m = rw e at loop.invariant.2 in m.fits;
       needs = c.need-need.ensures;
     }

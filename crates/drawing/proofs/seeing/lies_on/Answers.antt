@@ -10,22 +10,24 @@ use Rattle.outline.specs.Placed.{dot_on, on_dot}
 use Rattle.drawing.proofs.Machine.{by_le, held, same_bits, dot_same, turn_same}
 use Rattle.drawing.proofs.seeing.lies_on.Goals as goal
 
--- the turn of corner k from ij
-line : (c : goal.After-turn) →
-    let s = c.args in
-    c.turn.result ≡ turn_of (corner s.xy.now s.i) (corner s.xy.now s.j) (corner s.xy.now s.k)
-line c =
-    c.turn.ensures ∙
-    turn_same c.corner-a.ensures.is c.corner-b.ensures.is
-    c.corner-c.ensures.is
-
 pub returns-then-turn-eq0 : goal.returns-then-turn-eq0
 returns-then-turn-eq0 c =
-    let flat = same_bits (held c.turn.type-inv (line c)) refl c.if-turn-eq0.true in
+    let line : let s = c.args in
+        c.turn.result ≡ turn_of (corner s.xy.now s.i) (corner s.xy.now s.j) (corner s.xy.now s.k) =
+        c.turn.ensures ∙
+        turn_same c.corner-a.ensures.is c.corner-b.ensures.is
+        c.corner-c.ensures.is in
+    let flat = same_bits (held c.turn.type_inv line) refl c.if-turn-eq0.true in
     let e = c.dot.ensures ∙
     dot_same c.corner-c.ensures.is c.corner-a.ensures.is
     c.corner-b.ensures.is in
-    by_le (held c.dot.type-inv e) refl (dot_on flat) on_dot
+    by_le (held c.dot.type_inv e) refl (dot_on flat) on_dot
 
 pub returns-else-turn-eq0 : goal.returns-else-turn-eq0
-returns-else-turn-eq0 c = never (λ o. c.if-turn-eq0.false (ap (of_z w64) (line c ∙ o.line)))
+returns-else-turn-eq0 c =
+    let line : let s = c.args in
+        c.turn.result ≡ turn_of (corner s.xy.now s.i) (corner s.xy.now s.j) (corner s.xy.now s.k) =
+        c.turn.ensures ∙
+        turn_same c.corner-a.ensures.is c.corner-b.ensures.is
+        c.corner-c.ensures.is in
+    never (λ o. c.if-turn-eq0.false (ap (of_z w64) (line ∙ o.line)))

@@ -33,7 +33,7 @@ told-early d sound i j hi hj n s = go (beside_or d i j)
 pub returns-then-not-angle : goal.returns-then-not-angle
 returns-then-not-angle c =
     let h = c.requires.limits in
-    let outside = if_no c.angle.ensures (not-true _ c.if-not-angle.true) in
+    let outside = if_no c.angle.ensures c.if-not-angle.true in
     record { told = inr (refl, told-early _ h.1 c.args.i c.args.j h.2 h.3 outside) }
 
 pub to_look_at-sides-requires : goal.to_look_at-sides-requires
@@ -44,7 +44,7 @@ to_look_at-sides-requires c =
 pub look_along-requires : goal.look_along-requires
 look_along-requires c =
     let h = c.requires in
-    let inside = if_yes c.angle.ensures (not-false _ c.if-not-angle.false) in
+    let inside = if_yes c.angle.ensures c.if-not-angle.false in
     record { limits = h.limits; angle = (inside, h.angle.0, c.to_look_at-sides.ensures) }
 
 pub returns : goal.returns

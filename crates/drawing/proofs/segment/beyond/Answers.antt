@@ -18,21 +18,16 @@ less x y = lt_z (back x) (back y)
 tells : {x y : ℤ} → SFits w64 x → SFits w64 y → Tells (less x y) (x <ℤ y)
 tells e f = by_lt (to_z-of_z e) (to_z-of_z f) (λ h. h) (λ h. h)
 
-both_below : (s : goal.Start) →
-    let p = s.args in
-    Tells ((less p.c p.a && less p.c p.b) && (less p.d p.a && less p.d p.b))
-    (Below p.c p.a p.b × Below p.d p.a p.b)
-both_below s =
-    let f = s.ranges in
-    and_tells (and_tells (tells f.c f.a) (tells f.c f.b))
-    (and_tells (tells f.d f.a) (tells f.d f.b))
-
 pub returns-then-c-a : goal.returns-then-c-a
-returns-then-c-a c = surely (inl (if_yes (both_below c) c.if-c-a.true))
+returns-then-c-a c =
+    let f = c.ranges in
+    let both_below = and_tells (and_tells (tells f.c f.a) (tells f.c f.b)) (and_tells (tells f.d f.a) (tells f.d f.b)) in
+    surely (inl (if_yes both_below c.if-c-a.true))
 
 pub returns : goal.returns
 returns c =
     let f = c.ranges in
-    or_tells (never (if_no (both_below c) c.if-c-a.false))
+    let both_below = and_tells (and_tells (tells f.c f.a) (tells f.c f.b)) (and_tells (tells f.d f.a) (tells f.d f.b)) in
+    or_tells (never (if_no both_below c.if-c-a.false))
     (and_tells (and_tells (tells f.a f.c) (tells f.b f.c))
     (and_tells (tells f.a f.d) (tells f.b f.d)))

@@ -5,40 +5,34 @@ use Rattle.whole.specs.Bounds.{fit, loc, less, plus}
 use Rattle.drawing.proofs.Machine.{the_x, the_y, product}
 use Rattle.drawing.proofs.segment.dot.Goals as goal
 
-abbrev four : goal.After-struct_told-4-1 → goal.Start
-four c = c
-
-abbrev eight : goal.After-struct_told-8-1 → goal.Start
-eight c = four c
-
 pub overflow_sub-result : goal.overflow_sub-result
 overflow_sub-result c = let h = c.requires in fit tt (less (the_x h.1) (the_x h.0))
 
 pub overflow_sub-result-2 : goal.overflow_sub-result-2
-overflow_sub-result-2 c = let h = (four c).requires in fit tt (less (the_x h.2) (the_x h.0))
+overflow_sub-result-2 c = let h = c.requires in fit tt (less (the_x h.2) (the_x h.0))
 
 pub overflow_mul-result : goal.overflow_mul-result
-overflow_mul-result c = let h = (four c).requires in fit tt (product (the_x h.1) (the_x h.0) (the_x h.2) (the_x h.0))
+overflow_mul-result c = let h = c.requires in fit tt (product (the_x h.1) (the_x h.0) (the_x h.2) (the_x h.0))
 
 pub overflow_sub-result-3 : goal.overflow_sub-result-3
-overflow_sub-result-3 c = let h = (four c).requires in fit tt (less (the_y h.1) (the_y h.0))
+overflow_sub-result-3 c = let h = c.requires in fit tt (less (the_y h.1) (the_y h.0))
 
 pub overflow_sub-result-4 : goal.overflow_sub-result-4
-overflow_sub-result-4 c = let h = (eight c).requires in fit tt (less (the_y h.2) (the_y h.0))
+overflow_sub-result-4 c = let h = c.requires in fit tt (less (the_y h.2) (the_y h.0))
 
 pub overflow_mul-result-2 : goal.overflow_mul-result-2
-overflow_mul-result-2 c = let h = (eight c).requires in fit tt (product (the_y h.1) (the_y h.0) (the_y h.2) (the_y h.0))
+overflow_mul-result-2 c = let h = c.requires in fit tt (product (the_y h.1) (the_y h.0) (the_y h.2) (the_y h.0))
 
 pub overflow_add-result : goal.overflow_add-result
 overflow_add-result c =
-    let h = (eight c).requires in
+    let h = c.requires in
     fit tt (plus
     (loc w64 tt (product (the_x h.1) (the_x h.0) (the_x h.2) (the_x h.0)))
     (loc w64 tt (product (the_y h.1) (the_y h.0) (the_y h.2) (the_y h.0))))
 
 pub returns : goal.returns
 returns c =
-    let h = (eight c).requires in
+    let h = c.requires in
     (loc w64 tt (plus
     (loc w64 tt (product (the_x h.1) (the_x h.0) (the_x h.2) (the_x h.0)))
     (loc w64 tt (product (the_y h.1) (the_y h.0) (the_y h.2) (the_y h.0))))).is

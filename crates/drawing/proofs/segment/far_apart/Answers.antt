@@ -6,31 +6,22 @@ use Rattle.outline.specs.FarApart.{Beyond}
 use Rattle.drawing.proofs.Machine.{the_x, the_y}
 use Rattle.drawing.proofs.segment.far_apart.Goals as goal
 
--- the function's entry, from after each axis
-abbrev one : goal.After-beyond → goal.Start
-one c = c
-
-abbrev two : goal.After-beyond-2 → goal.Start
-two c = one c
-
--- the answers of `beyond`, of the coordinates themselves
-by-x : (c : goal.After-beyond) →
-    let p = (one c).args in
-    Tells c.beyond.result (Beyond p.a.x p.b.x p.c.x p.d.x)
-by-x c =
-    let h = (one c).requires in
-    rw ((the_x h.0).is, (the_x h.1).is, (the_x h.2).is, (the_x h.3).is) at c.beyond.ensures
-
-by-y : (c : goal.After-beyond-2) →
-    let p = (two c).args in
-    Tells c.beyond-2.result (Beyond p.a.y p.b.y p.c.y p.d.y)
-by-y c =
-    let h = (two c).requires in
-    rw ((the_y h.0).is, (the_y h.1).is, (the_y h.2).is, (the_y h.3).is) at c.beyond-2.ensures
-
 pub returns-then-beyond : goal.returns-then-beyond
-returns-then-beyond c = surely (inl (if_yes (by-x c) c.if-beyond.true))
+returns-then-beyond c =
+    let by-x : let p = c.args in
+        Tells c.beyond.result (Beyond p.a.x p.b.x p.c.x p.d.x) =
+        let h = c.requires in
+        rw ((the_x h.0).is, (the_x h.1).is, (the_x h.2).is, (the_x h.3).is) at c.beyond.ensures in
+    surely (inl (if_yes by-x c.if-beyond.true))
 
 pub returns : goal.returns
 returns c =
-    or_tells (never (if_no (by-x c) c.if-beyond.false)) (by-y c)
+    let by-x : let p = c.args in
+        Tells c.beyond.result (Beyond p.a.x p.b.x p.c.x p.d.x) =
+        let h = c.requires in
+        rw ((the_x h.0).is, (the_x h.1).is, (the_x h.2).is, (the_x h.3).is) at c.beyond.ensures in
+    let by-y : let p = c.args in
+        Tells c.beyond-2.result (Beyond p.a.y p.b.y p.c.y p.d.y) =
+        let h = c.requires in
+        rw ((the_y h.0).is, (the_y h.1).is, (the_y h.2).is, (the_y h.3).is) at c.beyond-2.ensures in
+    or_tells (never (if_no by-x c.if-beyond.false)) by-y

@@ -10,9 +10,9 @@ use Rattle.drawing.proofs.segment.only_end.Goals as goal
 
 pub returns-then-turn-eq0 : goal.returns-then-turn-eq0
 returns-then-turn-eq0 c =
-    let flat = same_bits (held c.turn.type-inv c.turn.ensures) refl
+    let flat = same_bits (held c.turn.type_inv c.turn.ensures) refl
     c.if-turn-eq0.true in
-    by_le (held c.dot.type-inv c.dot.ensures) refl (λ h. only_sound (λ e. h)) (λ o. only_complete o flat)
+    by_le (held c.dot.type_inv c.dot.ensures) refl (λ h. only_sound (λ e. h)) (λ o. only_complete o flat)
 
 pub returns-else-turn-eq0 : goal.returns-else-turn-eq0
 returns-else-turn-eq0 c = surely (only_sound (λ e. absurd (c.if-turn-eq0.false (ap (of_z w64) (c.turn.ensures ∙ e)))))

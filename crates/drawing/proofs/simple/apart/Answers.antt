@@ -15,12 +15,12 @@ pair_apart-requires c = (c.requires.0, c.requires.1, omega arith)
 
 pub returns-then-not-pair_apart : goal.returns-then-not-pair_apart
 returns-then-not-pair_apart c =
-    let share = if_no c.pair_apart.ensures (not-true _ c.if-not-pair_apart.true) in
+    let share = if_no c.pair_apart.ensures c.if-not-pair_apart.true in
     never (λ f. share (f c.loop-j.j (omega arith)))
 
 pub loop-j-preserved : goal.loop-j-preserved
 loop-j-preserved c =
-    let apart = if_yes c.pair_apart.ensures (not-false _ c.if-not-pair_apart.false) in
+    let apart = if_yes c.pair_apart.ensures c.if-not-pair_apart.false in
     (omega arith, below_more _ _ c.loop-j.invariant.1 apart)
 
 pub returns : goal.returns

@@ -1,6 +1,5 @@
 -- `drawing::simple::doubled_area` meets its contract: the sum is that of the sides passed, and no larger than they
 -- allow.
--- the machine's s is the sum of the first k sides
 use mathlib.Core.Path.{◌≡◌, refl, ap, ◌∙◌}
 use mathlib.Core.List.{List}
 use Prim.Native.Nat.{ℕ, ◌+◌, ◌*◌, ◌^◌, ◌≤◌, ◌<◌, ◌-◌}
@@ -18,8 +17,12 @@ use Rattle.drawing.specs.Parts.{most_side_area, SideArea}
 use Rattle.drawing.proofs.Machine.{back, held}
 use Rattle.drawing.proofs.simple.doubled_area.Given as goal
 
+-- the machine's s is the sum of the first k sides
+abbrev pub Summed : List ℤ → ℕ → ℤ → Type 0
+Summed d k s = Val s (area_to d k) (k * most_side_area)
+
 abbrev pub invariant-loop-k : goal.invariant-loop-k
-invariant-loop-k l = (l.k ≤ corners l.xy) × Sum l.xy l.k (to_z w64 l.sum)
+invariant-loop-k l = (l.k ≤ corners l.xy) × Summed l.xy l.k l.sum
 
 abbrev pub decreases-loop-k : goal.decreases-loop-k
 decreases-loop-k l = corners l.xy - l.k

@@ -16,12 +16,12 @@ side_stands-requires c = (c.requires, c.loop-i-test.true)
 
 pub returns-then-not-side_stands : goal.returns-then-not-side_stands
 returns-then-not-side_stands c =
-    let falls = if_no c.side_stands.ensures (not-true _ c.if-not-side_stands.true) in
+    let falls = if_no c.side_stands.ensures c.if-not-side_stands.true in
     never (λ s. falls (stands_of s c.loop-i.i c.loop-i-test.true))
 
 pub loop-i-preserved : goal.loop-i-preserved
 loop-i-preserved c =
-    let stands = if_yes c.side_stands.ensures (not-false _ c.if-not-side_stands.false) in
+    let stands = if_yes c.side_stands.ensures c.if-not-side_stands.false in
     (omega arith, below_more _ _ c.loop-i.invariant.1 stands)
 
 pub returns : goal.returns

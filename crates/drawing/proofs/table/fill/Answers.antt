@@ -7,20 +7,20 @@ use Rattle.drawing.specs.Table.{Marked, RowsDone}
 use Rattle.drawing.proofs.Settling.{rows_coded, settled_seen}
 use Rattle.drawing.proofs.table.fill.Goals as goal
 
--- after the rows
-marked : (c : goal.After-rows) →
-    let d = c.args in
-    Marked d.xy.now (RowsDone d.xy.now (corners d.xy.now)) d.cells.now c.rows.new.1.1.0
-marked c =
-    c.rows.ensures.grown _ (c.beginnings.ensures.grown _
-    (c.neighbours.ensures.grown _ c.blank.ensures))
-
 pub settle-requires : goal.settle-requires
 settle-requires c =
-    let m = marked c in
+    let marked : let d = c.args in
+        Marked d.xy.now (RowsDone d.xy.now (corners d.xy.now)) d.cells.now c.rows.new.cells =
+        c.rows.ensures.grown _ (c.beginnings.ensures.grown _
+        (c.neighbours.ensures.grown _ c.blank.ensures)) in
+    let m = marked in
     let h = c.requires in
     (h.0, h.1, omega (arith, h.2, m.size), rows_coded m)
 
 pub returns : goal.returns
 returns c =
-    settled_seen c.pre.1 (marked c) c.settle.ensures
+    let marked : let d = c.args in
+        Marked d.xy.now (RowsDone d.xy.now (corners d.xy.now)) d.cells.now c.rows.new.cells =
+        c.rows.ensures.grown _ (c.beginnings.ensures.grown _
+        (c.neighbours.ensures.grown _ c.blank.ensures)) in
+    settled_seen c.requires.1 marked c.settle.ensures

@@ -21,15 +21,17 @@ angles-bends-requires c = c.requires.limits.0.shaped.few
 pub loop-i-init : goal.loop-i-init
 loop-i-init c = (omega arith, rows_first)
 
--- there are no more corners than the list has room for
-few : (c : goal.In-loop-i invariant-loop2 decreases-loop2 invariant-loop decreases-loop) → c.loop-i.i < 64
-few c = omega (arith, c.requires.limits.0.shaped.few, c.loop-i-test.true)
-
 pub offset_bounds-known-i : goal.offset_bounds-known-i
-offset_bounds-known-i c = omega (arith, few c)
+offset_bounds-known-i c =
+    let few : c.loop-i.i < 64 =
+        omega (arith, c.requires.limits.0.shaped.few, c.loop-i-test.true) in
+    omega (arith, few)
 
 pub bounds-known-i : goal.bounds-known-i
-bounds-known-i c = few c
+bounds-known-i c =
+    let few : c.loop-i.i < 64 =
+        omega (arith, c.requires.limits.0.shaped.few, c.loop-i-test.true) in
+    few
 
 pub faced-requires : goal.faced-requires
 faced-requires c =
@@ -37,55 +39,104 @@ faced-requires c =
     (h.limits.0.shaped.enough, h.limits.0.shaped.few, (h.limits.2 _ c.loop-i-test.true).left_fits)
 
 pub overflow_shr-rest : goal.overflow_shr-rest
-overflow_shr-rest c = few c
-
--- who has corner i inside the angle
-faces : (c : goal.After-faced invariant-loop2 decreases-loop2 invariant-loop decreases-loop) →
-    FacedBy c.args.xy.now c.loop-i.i
-    c.faced.result
-faces c =
-    let bends = c.angles-bends.ensures in
-    let i = c.loop-i.i in
-    faced_marks c.args.xy.now i c.args.t2 c.faced.ensures c.requires.limits.2
-    (c.requires.limits.2 i c.loop-i-test.true).left_of bends.0 bends.1
+overflow_shr-rest c =
+    let few : c.loop-i.i < 64 =
+        omega (arith, c.requires.limits.0.shaped.few, c.loop-i-test.true) in
+    few
 
 pub loop-rest-init : goal.loop-rest-init
 loop-rest-init c =
+    let faces : FacedBy c.args.xy.now c.loop-i.i
+        c.faced.result =
+        let bends = c.angles-bends.ensures in
+        let i = c.loop-i.i in
+        faced_marks c.args.xy.now i c.args.known c.faced.ensures c.requires.limits.2
+        (c.requires.limits.2 i c.loop-i-test.true).left_of bends.marks bends.marks_2 in
     let small = shifted_below c.faced.result c.loop-i.i in
-    let fits : c.faced.result < 2 ^ 64 = c.faced.type-inv in
+    let fits : c.faced.result < 2 ^ 64 = c.faced.type_inv in
     let sound = c.requires.limits.1 in
-    (scan_start (omega (arith, small, fits)), row_start sound c.loop-i-test.true (faces c))
+    (scan_start (omega (arith, small, fits)), row_start sound c.loop-i-test.true faces)
 
 pub overflow_cast-j : goal.overflow_cast-j
 overflow_cast-j c = let l = mark_below c.loop-rest.invariant.0 c.loop-rest-test.true in omega (arith, l)
 
--- the next mark is a corner's
-here : (c : goal.In-loop-rest invariant-loop2 decreases-loop2 invariant-loop decreases-loop) →
-    let d = c.args.xy.now in
-    let i = c.loop-i.i in
-    let j = i + mark c.loop-rest.rest in
-    (j < corners d) × (j < 64) × Angle d j i
-here c =
-    let i = c.loop-i.i in
-    let k = mark c.loop-rest.rest in
-    let on = scan_mark c.loop-rest.invariant.0 c.loop-rest-test.true in
-    let l = (faces c).yes (i + k) (sym (bit_from c.faced.result i k) ∙ on) in
-    (l.0, omega (arith, l.0, c.requires.limits.0.shaped.few), l.1)
-
 pub overflow_add-j : goal.overflow_add-j
-overflow_add-j c = omega (arith, (here c).1)
+overflow_add-j c =
+    let faces : FacedBy c.args.xy.now c.loop-i.i
+        c.faced.result =
+        let bends = c.angles-bends.ensures in
+        let i = c.loop-i.i in
+        faced_marks c.args.xy.now i c.args.known c.faced.ensures c.requires.limits.2
+        (c.requires.limits.2 i c.loop-i-test.true).left_of bends.marks bends.marks_2 in
+    let here : let d = c.args.xy.now in
+        let i = c.loop-i.i in
+        let j = i + mark c.loop-rest.rest in
+        (j < corners d) × (j < 64) × Angle d j i =
+        let i = c.loop-i.i in
+        let k = mark c.loop-rest.rest in
+        let on = scan_mark c.loop-rest.invariant.0 c.loop-rest-test.true in
+        let l = faces.yes (i + k) (sym (bit_from c.faced.result i k) ∙ on) in
+        (l.0, omega (arith, l.0, c.requires.limits.0.shaped.few), l.1) in
+    omega (arith, here.1)
 
 pub offset_bounds-known-j : goal.offset_bounds-known-j
-offset_bounds-known-j c = omega (arith, (here c).1)
+offset_bounds-known-j c =
+    let faces : FacedBy c.args.xy.now c.loop-i.i
+        c.faced.result =
+        let bends = c.angles-bends.ensures in
+        let i = c.loop-i.i in
+        faced_marks c.args.xy.now i c.args.known c.faced.ensures c.requires.limits.2
+        (c.requires.limits.2 i c.loop-i-test.true).left_of bends.marks bends.marks_2 in
+    let here : let d = c.args.xy.now in
+        let i = c.loop-i.i in
+        let j = i + mark c.loop-rest.rest in
+        (j < corners d) × (j < 64) × Angle d j i =
+        let i = c.loop-i.i in
+        let k = mark c.loop-rest.rest in
+        let on = scan_mark c.loop-rest.invariant.0 c.loop-rest-test.true in
+        let l = faces.yes (i + k) (sym (bit_from c.faced.result i k) ∙ on) in
+        (l.0, omega (arith, l.0, c.requires.limits.0.shaped.few), l.1) in
+    omega (arith, here.1)
 
 pub bounds-known-j : goal.bounds-known-j
-bounds-known-j c = (here c).1
+bounds-known-j c =
+    let faces : FacedBy c.args.xy.now c.loop-i.i
+        c.faced.result =
+        let bends = c.angles-bends.ensures in
+        let i = c.loop-i.i in
+        faced_marks c.args.xy.now i c.args.known c.faced.ensures c.requires.limits.2
+        (c.requires.limits.2 i c.loop-i-test.true).left_of bends.marks bends.marks_2 in
+    let here : let d = c.args.xy.now in
+        let i = c.loop-i.i in
+        let j = i + mark c.loop-rest.rest in
+        (j < corners d) × (j < 64) × Angle d j i =
+        let i = c.loop-i.i in
+        let k = mark c.loop-rest.rest in
+        let on = scan_mark c.loop-rest.invariant.0 c.loop-rest-test.true in
+        let l = faces.yes (i + k) (sym (bit_from c.faced.result i k) ∙ on) in
+        (l.0, omega (arith, l.0, c.requires.limits.0.shaped.few), l.1) in
+    here.1
 
 pub decide-requires : goal.decide-requires
 decide-requires c =
+    let faces : FacedBy c.args.xy.now c.loop-i.i
+        c.faced.result =
+        let bends = c.angles-bends.ensures in
+        let i = c.loop-i.i in
+        faced_marks c.args.xy.now i c.args.known c.faced.ensures c.requires.limits.2
+        (c.requires.limits.2 i c.loop-i-test.true).left_of bends.marks bends.marks_2 in
+    let here : let d = c.args.xy.now in
+        let i = c.loop-i.i in
+        let j = i + mark c.loop-rest.rest in
+        (j < corners d) × (j < 64) × Angle d j i =
+        let i = c.loop-i.i in
+        let k = mark c.loop-rest.rest in
+        let on = scan_mark c.loop-rest.invariant.0 c.loop-rest-test.true in
+        let l = faces.yes (i + k) (sym (bit_from c.faced.result i k) ∙ on) in
+        (l.0, omega (arith, l.0, c.requires.limits.0.shaped.few), l.1) in
     let loop = c.loop-i in
     let h = c.requires in
-    let l = c.loop-i-test.true in record { limits = (h.limits.0, h.limits.1, omega (arith, h.all_cells_in_bounds, loop.invariant.1.size, c.loop-rest.invariant.1.size)); i_bound = (l, (here c).0, (here c).2); knows = (h.limits.2 _ l, h.limits.2 _ (here c).0) }
+    let l = c.loop-i-test.true in record { limits = (h.limits.0, h.limits.1, omega (arith, h.all_cells_in_bounds, loop.invariant.1.size, c.loop-rest.invariant.1.size)); i_bound = (l, here.0, here.2); knows = (h.limits.2 _ l, h.limits.2 _ here.0) }
 
 pub overflow_sub-rest : goal.overflow_sub-rest
 overflow_sub-rest c = let n = c.loop-rest-test.true in omega (arith, n)
@@ -96,18 +147,36 @@ loop-rest-smaller c =
 
 pub loop-rest-preserved : goal.loop-rest-preserved
 loop-rest-preserved c =
+    let faces : FacedBy c.args.xy.now c.loop-i.i
+        c.faced.result =
+        let bends = c.angles-bends.ensures in
+        let i = c.loop-i.i in
+        faced_marks c.args.xy.now i c.args.known c.faced.ensures c.requires.limits.2
+        (c.requires.limits.2 i c.loop-i-test.true).left_of bends.marks bends.marks_2 in
+    let here : let d = c.args.xy.now in
+        let i = c.loop-i.i in
+        let j = i + mark c.loop-rest.rest in
+        (j < corners d) × (j < 64) × Angle d j i =
+        let i = c.loop-i.i in
+        let k = mark c.loop-rest.rest in
+        let on = scan_mark c.loop-rest.invariant.0 c.loop-rest-test.true in
+        let l = faces.yes (i + k) (sym (bit_from c.faced.result i k) ∙ on) in
+        (l.0, omega (arith, l.0, c.requires.limits.0.shaped.few), l.1) in
     let loop = c.loop-i in
     let h = c.requires in
     let inv = c.loop-rest.invariant in
     let n = c.loop-rest-test.true in
     let room : all_cells ≤ length c.loop-rest.cells =
     omega (arith, h.all_cells_in_bounds, loop.invariant.1.size, inv.1.size) in
-    let more = row_decided h.limits.1 c.loop-i-test.true (here c).0 room
+    let more = row_decided h.limits.1 c.loop-i-test.true here.0 room
     inv.0.fits n refl c.decide.ensures in
     (scan_more inv.0 n refl, grows_on inv.1 more)
 
 pub overflow_step-i : goal.overflow_step-i
-overflow_step-i c = omega (arith, few c)
+overflow_step-i c =
+    let few : c.loop-i.i < 64 =
+        omega (arith, c.requires.limits.0.shaped.few, c.loop-i-test.true) in
+    omega (arith, few)
 
 pub loop-i-smaller : goal.loop-i-smaller
 loop-i-smaller c = omega (arith, c.loop-i-test.true)
