@@ -48,7 +48,7 @@ side_area-sum-requires c = (c.corner-a.ensures.close, c.corner-b.ensures.close)
 
 pub overflow_add-sum : goal.overflow_add-sum
 overflow_add-sum c =
-    let more : Sum c.args.xy.now (c.loop-k.k + 1) (to_z w64 c.loop-k.sum +ℤ back c.side_area-sum.result) =
+    let more : Sum c.args.xy.now (c.loop-k.k + 1) (to_z w64 c.loop-k.sum-bits +ℤ back c.side_area-sum.result) =
         let d = c.args.xy.now in
         let k = c.loop-k.k in
         let b_is = c.corner-b.ensures.is ∙ ap (corner d) c.next-m.ensures.is in
@@ -59,7 +59,7 @@ overflow_add-sum c =
 
 pub loop-k-preserved : goal.loop-k-preserved
 loop-k-preserved c =
-    let more : Sum c.args.xy.now (c.loop-k.k + 1) (to_z w64 c.loop-k.sum +ℤ back c.side_area-sum.result) =
+    let more : Sum c.args.xy.now (c.loop-k.k + 1) (to_z w64 c.loop-k.sum-bits +ℤ back c.side_area-sum.result) =
         let d = c.args.xy.now in
         let k = c.loop-k.k in
         let b_is = c.corner-b.ensures.is ∙ ap (corner d) c.next-m.ensures.is in
