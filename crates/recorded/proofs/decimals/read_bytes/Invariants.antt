@@ -1,11 +1,8 @@
 -- `decimals::read_bytes` meets its contract.
-use mathlib.Core.Bool.{◌&&◌}
-use mathlib.Core.Path.{ap, ◌∙◌}
 use Prim.Native.Nat.{◌-◌}
-use native.Mathlib.Omega.{arith}
 use lib.ListN.{length}
 use Rattle.recorded.specs.Decimals.{byte_at}
-use Rattle.recorded.proofs.Places.{Read, read_none, read_more, read_all}
+use Rattle.recorded.proofs.Places.{Read}
 use Rattle.recorded.proofs.decimals.read_bytes.Given as goal
 
 abbrev pub invariant-loop-i : goal.invariant-loop-i
