@@ -9,8 +9,8 @@ use Rattle.telling.proofs.ranges.piece.Goals as goal
 
 pub overflow_cast-out : goal.overflow_cast-out
 overflow_cast-out c =
-    let few = corners_few (pairs_wide c.args.pairs.now) _ _ c.pre.0.1 in
-    omega (arith, few, c.pre.0, c.spell-past.ensures.past)
+    let few = corners_few (pairs_wide c.args.pairs.now) _ _ c.requires.all_cells_in_bounds.1 in
+    omega (arith, few, c.requires.all_cells_in_bounds, c.spell-past.ensures.past)
 
 pub bounds-out-at-2 : goal.bounds-out-at-2
 bounds-out-at-2 c = simp length-set (omega arith)
