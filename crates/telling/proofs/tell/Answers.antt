@@ -1,7 +1,6 @@
 -- `tell`: what is not served is refused, the range of all corners is told, and the centres are put in.
 use native.Mathlib.Omega.{arith}
 use lib.ListN.{length}
-use borrow.Author.Rules.{rules}
 use mathlib.Core.List.{List}
 use Prim.Native.Nat.{ℕ, ◌≤◌}
 use Rattle.limits.specs.Limits.{fewest_corners, most_corners, all_cells, Roomy}
@@ -34,42 +33,42 @@ pub returns-then-out-n : goal.returns-then-out-n
 returns-then-out-n c =
     let enough = c.if-n-lt-FEWEST_CORNERS.false in
     let s = served c.if-n-lt-FEWEST_CORNERS.false c.if-n-gt-MOST_CORNERS.false c.if-pairs-lt-ALL_CELLS.false
-        c.if-first-lt-ALL_CELLS.false c.if-second-lt-ALL_CELLS.false in
+    c.if-first-lt-ALL_CELLS.false c.if-second-lt-ALL_CELLS.false in
     short s (λ r. omega (arith, r, c.if-out-n.true, enough))
 
 pub write_range-bytes-requires : goal.write_range-bytes-requires
 write_range-bytes-requires c =
     let s = served c.if-n-lt-FEWEST_CORNERS.false c.if-n-gt-MOST_CORNERS.false c.if-pairs-lt-ALL_CELLS.false
-        c.if-first-lt-ALL_CELLS.false c.if-second-lt-ALL_CELLS.false in
+    c.if-first-lt-ALL_CELLS.false c.if-second-lt-ALL_CELLS.false in
     let r : Roomy c.args.n (length c.args.out.now) = omega (arith, c.if-out-n.false) in
     record { all_cells_in_bounds = (s.pairs_whole, omega (arith, s.enough), omega (arith, s.enough, s.few)); j_in_bounds = omega (arith, r, whole_size s) }
 
 pub put_centres-requires : goal.put_centres-requires
 put_centres-requires c =
     let s = served c.if-n-lt-FEWEST_CORNERS.false c.if-n-gt-MOST_CORNERS.false c.if-pairs-lt-ALL_CELLS.false
-        c.if-first-lt-ALL_CELLS.false c.if-second-lt-ALL_CELLS.false in
+    c.if-first-lt-ALL_CELLS.false c.if-second-lt-ALL_CELLS.false in
     let r : Roomy c.args.n (length c.args.out.now) = omega (arith, c.if-out-n.false) in
     record { all_cells_in_bounds = (s.first_whole, s.second_whole); pieces = whole_pieces s r c.write_range-bytes.ensures }
 
 pub overflow_add-result : goal.overflow_add-result
 overflow_add-result c =
     let s = served c.if-n-lt-FEWEST_CORNERS.false c.if-n-gt-MOST_CORNERS.false c.if-pairs-lt-ALL_CELLS.false
-        c.if-first-lt-ALL_CELLS.false c.if-second-lt-ALL_CELLS.false in
+    c.if-first-lt-ALL_CELLS.false c.if-second-lt-ALL_CELLS.false in
     let w = c.write_range-bytes.ensures in
     omega (arith, s.few, whole_size s, w.past)
 
 pub overflow_sub-result : goal.overflow_sub-result
 overflow_sub-result c =
     let s = served c.if-n-lt-FEWEST_CORNERS.false c.if-n-gt-MOST_CORNERS.false c.if-pairs-lt-ALL_CELLS.false
-        c.if-first-lt-ALL_CELLS.false c.if-second-lt-ALL_CELLS.false in
+    c.if-first-lt-ALL_CELLS.false c.if-second-lt-ALL_CELLS.false in
     let w = c.write_range-bytes.ensures in
     omega (arith, whole_size s, w.past)
 
 pub returns : goal.returns
 returns c =
     let s : Served c.args.n c.args.pairs.now c.args.first.now c.args.second.now =
-        served c.if-n-lt-FEWEST_CORNERS.false c.if-n-gt-MOST_CORNERS.false c.if-pairs-lt-ALL_CELLS.false
-        c.if-first-lt-ALL_CELLS.false c.if-second-lt-ALL_CELLS.false in
+    served c.if-n-lt-FEWEST_CORNERS.false c.if-n-gt-MOST_CORNERS.false c.if-pairs-lt-ALL_CELLS.false
+    c.if-first-lt-ALL_CELLS.false c.if-second-lt-ALL_CELLS.false in
     let r : Roomy c.args.n (length c.args.out.now) = omega (arith, c.if-out-n.false) in
     let w = c.write_range-bytes.ensures in
     let z = whole_size s in

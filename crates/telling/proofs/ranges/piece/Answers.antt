@@ -1,7 +1,6 @@
 -- `ranges::piece`: the corners after the first, and then the three numbers before them.
 use native.Mathlib.Omega.{arith}
 use lib.ListN.{length-set}
-use borrow.Author.Rules.{rules}
 use Rattle.rules.specs.Walk.{corners_few}
 use Rattle.telling.proofs.Tellings.{pairs_wide}
 use Rattle.telling.proofs.Stores.{wrote_piece}
