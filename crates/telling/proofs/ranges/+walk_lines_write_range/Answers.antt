@@ -18,7 +18,10 @@ walk_lines-write_range-past-requires t c =
     let e = c.wide-d.ensures in
     let n = walked_next v l e in (
       omega (arith, walked_narrow v l e, n.after),
-      ((s.all_cells_in_bounds, n.after, omega (arith, walked_high v l e, s.standing.small)), omega (arith, walked_room v l e, v.behind)),
+      (
+        (s.all_cells_in_bounds, n.after, omega (arith, walked_high v l e, s.standing.small)),
+        omega (arith, walked_room v l e, v.behind),
+      ),
     )
 
 pub walk_lines-loop-p-preserved : goal.walk_lines-loop-p-preserved
