@@ -41,14 +41,20 @@ write_range-bytes-requires c =
     let s = served c.if-n-lt-FEWEST_CORNERS.false c.if-n-gt-MOST_CORNERS.false c.if-pairs-lt-ALL_CELLS.false
     c.if-first-lt-ALL_CELLS.false c.if-second-lt-ALL_CELLS.false in
     let r : Roomy c.args.n (length c.args.out.now) = omega (arith, c.if-out-n.false) in
-    record { all_cells_in_bounds = (s.pairs_whole, omega (arith, s.enough), omega (arith, s.enough, s.few)); j_in_bounds = omega (arith, r, whole_size s) }
+    record {
+      all_cells_in_bounds = (s.pairs_whole, omega (arith, s.enough), omega (arith, s.enough, s.few));
+      j_in_bounds = omega (arith, r, whole_size s);
+    }
 
 pub put_centres-requires : goal.put_centres-requires
 put_centres-requires c =
     let s = served c.if-n-lt-FEWEST_CORNERS.false c.if-n-gt-MOST_CORNERS.false c.if-pairs-lt-ALL_CELLS.false
     c.if-first-lt-ALL_CELLS.false c.if-second-lt-ALL_CELLS.false in
     let r : Roomy c.args.n (length c.args.out.now) = omega (arith, c.if-out-n.false) in
-    record { all_cells_in_bounds = (s.first_whole, s.second_whole); pieces = whole_pieces s r c.write_range-bytes.ensures }
+    record {
+      all_cells_in_bounds = (s.first_whole, s.second_whole);
+      pieces = whole_pieces s r c.write_range-bytes.ensures;
+    }
 
 pub overflow_add-result : goal.overflow_add-result
 overflow_add-result c =

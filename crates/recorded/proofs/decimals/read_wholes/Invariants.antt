@@ -7,7 +7,9 @@ use Rattle.recorded.proofs.Places.{Read}
 use Rattle.recorded.proofs.decimals.read_wholes.Given as goal
 
 abbrev pub invariant-loop-i : goal.invariant-loop-i
-invariant-loop-i l = Read (pos 0) (λ k. (whole_at l.text k).value) (λ k. (whole_at l.text k).good) l.text l.at l.initial.out l.out l.p l.good l.i
+invariant-loop-i l =
+    Read (pos 0) (λ k. (whole_at l.text k).value) (λ k. (whole_at l.text k).good) l.text l.at
+    l.initial.out l.out l.p l.good l.i
 
 abbrev pub decreases-loop-i : goal.decreases-loop-i
 decreases-loop-i l = length l.initial.out - l.i

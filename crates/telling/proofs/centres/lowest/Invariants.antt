@@ -8,7 +8,9 @@ use Rattle.rules.specs.Lays as lays
 use Rattle.telling.proofs.centres.lowest.Given as goal
 
 abbrev pub invariant-loop-p : goal.invariant-loop-p
-invariant-loop-p l = centre (both_see l.first l.second) l.piece ≡ lays.first (λ x. all (both_see l.first l.second x) l.piece) (drop l.p l.piece)
+invariant-loop-p l =
+    centre (both_see l.first l.second) l.piece
+    ≡ lays.first (λ x. all (both_see l.first l.second x) l.piece) (drop l.p l.piece)
 
 abbrev pub decreases-loop-p : goal.decreases-loop-p
 decreases-loop-p l = length l.piece - l.p

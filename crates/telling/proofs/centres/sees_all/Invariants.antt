@@ -7,7 +7,8 @@ use Rattle.rules.specs.Lays.{all}
 use Rattle.telling.proofs.centres.sees_all.Given as goal
 
 abbrev pub invariant-loop-p : goal.invariant-loop-p
-invariant-loop-p l = all (both_see l.first l.second l.x) l.piece ≡ all (both_see l.first l.second l.x) (drop l.p l.piece)
+invariant-loop-p l =
+    all (both_see l.first l.second l.x) l.piece ≡ all (both_see l.first l.second l.x) (drop l.p l.piece)
 
 abbrev pub decreases-loop-p : goal.decreases-loop-p
 decreases-loop-p l = length l.piece - l.p
