@@ -1,5 +1,5 @@
 -- A list that says how long it is, read into the front of a buffer.
-use mathlib.Core.Path.{◌≡◌, refl, sym, subst, ap, ◌∙◌}
+use mathlib.Core.Path.{◌≡◌, refl, subst, ap, ◌∙◌}
 use mathlib.Core.Bool.{cond}
 use mathlib.Core.Logic.{by_cases}
 use mathlib.Core.List.{List, ◌++◌}

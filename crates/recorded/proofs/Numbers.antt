@@ -1,5 +1,5 @@
 -- What the machine's tests and casts make of a number.
-use mathlib.Core.Path.{◌≡◌, refl, ap, ◌∙◌}
+use mathlib.Core.Path.{◌≡◌, ap, ◌∙◌}
 use mathlib.Core.Bool.{Bool, true, false, cond, and-false}
 use mathlib.Core.List.{List, [], ◌∷◌}
 use mathlib.Core.Logic.{by_cases}

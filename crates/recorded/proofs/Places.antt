@@ -1,7 +1,7 @@
 -- A loop that writes a buffer place by place, and one that holds two buffers beside each other.
 use mathlib.Core.Path.{◌≡◌, refl, sym, subst, ap, ap₂, ◌∙◌}
 use mathlib.Core.Bool.{Bool, true, ◌&&◌}
-use mathlib.Core.List.{List, [], ◌∷◌}
+use mathlib.Core.List.{List}
 use Prim.Native.Nat.{ℕ, suc, ◌+◌, ◌<◌, ◌≤◌}
 use native.Mathlib.Numerals.{add-one}
 use native.Mathlib.Omega.{arith}
@@ -11,7 +11,6 @@ use lib.ListN.{length, get_or, set, drop, length-set, drop_of_length-le}
 use lib.Seq.{drop-cons, get_or-set_same, get_or-set_other}
 use Rattle.recorded.specs.Decimals.{after, place, all, listed}
 use Rattle.recorded.specs.Lent.{agreeing, Holds}
-use Rattle.recorded.specs.declared.decimals.Listed.{Listed}
 
 -- ---- after i stores
 pub record Held {A : Type 0} (nought : A) (item : ℕ → A) (before now : List A) (i : ℕ) : Type 0 where

@@ -1,8 +1,8 @@
 -- Digits one after another, as they are read: this is what the private functions of `decimals` promise. It tells what
 -- the plain definition of a number tells.
-use Rattle.std.specs.Prelude.{◌≡◌, refl, Bool, true, false, cond, ◌&&◌, List, [], ◌∷◌, ℕ, suc, ◌+◌, ◌*◌, ◌-◌, min, eqb, leb, length}
+use Rattle.std.specs.Prelude.{◌≡◌, refl, Bool, true, false, cond, ◌&&◌, List, [], ◌∷◌, ℕ, ◌+◌, ◌*◌, ◌-◌, min, eqb, leb, length}
 use Rattle.std.proofs.Common.{ap, ◌∙◌, arith, eq-eqb, ne_eqb}
-use Rattle.std.proofs.Math.Option.{none, some}
+use Rattle.std.proofs.Math.Option.{none}
 use Rattle.recorded.specs.Decimals.{decimal, no_number, or_no_number, natural, word_at, word_end}
 use Rattle.recorded.specs.declared.decimals.Natural.{Natural}
 

@@ -1,5 +1,5 @@
 -- What stands in front of a buffer after a list was read is the list that the text tells.
-use Rattle.std.specs.Prelude.{◌≡◌, refl, Bool, true, false, cond, List, [], ◌∷◌, ℕ, zero, suc, ◌<◌, ◌≤◌, leb, ℤ, pos, length, get_or, take}
+use Rattle.std.specs.Prelude.{◌≡◌, refl, Bool, true, false, cond, List, ℕ, zero, suc, ◌<◌, ◌≤◌, leb, ℤ, pos, length, get_or, take}
 use Rattle.std.proofs.Common.{sym, ap, ◌∙◌, arith, lt-ltb, length-take-le, get_or-take, ext_get_or}
 use Rattle.recorded.specs.Decimals.{whole_in}
 use Rattle.recorded.specs.Lent.{Holds}

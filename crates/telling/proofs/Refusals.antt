@@ -1,5 +1,5 @@
 -- A law for each line of the table: what is refused is not written, and the number is that of the line that fails.
-use mathlib.Core.Path.{◌≡◌, refl}
+use mathlib.Core.Path.{refl}
 use mathlib.Core.Logic.{inl, inr}
 use mathlib.Core.List.{List}
 use Prim.Native.Nat.{ℕ}

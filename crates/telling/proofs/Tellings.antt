@@ -2,12 +2,11 @@
 -- of n corners.
 use mathlib.Core.Path.{◌≡◌, sym, ap, ◌∙◌}
 use mathlib.Core.List.{List, [], ◌∷◌, ◌++◌}
-use Prim.Native.Nat.{ℕ, suc, ◌+◌, ◌-◌, ◌*◌, ◌<◌, ◌≤◌}
+use Prim.Native.Nat.{ℕ, ◌+◌, ◌-◌, ◌*◌, ◌<◌, ◌≤◌}
 use native.Mathlib.Omega.{arith}
 use lib.ListN.{length, drop}
 use lib.Seq.{sets-eq}
 use Rattle.limits.specs.Limits.{row, Roomy}
-use Rattle.rules.specs.Lists.{In}
 use Rattle.rules.specs.Cutting.{Pairs, corners, below, told, pieces}
 use Rattle.rules.specs.Cells.{filled, marked, both_see, InBoth, marked_wide, marked_is, both_see_is}
 use Rattle.rules.specs.Centre.{LowestOrZero}

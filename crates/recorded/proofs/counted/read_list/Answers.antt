@@ -1,9 +1,8 @@
 -- `counted::read_list` meets its contract: a list that has no room, and one that has.
 use mathlib.Core.Path.{sym}
 use native.Mathlib.Omega.{arith}
-use borrow.Author.Rules.{rules}
 use lib.IntN.{pos}
-use lib.ListN.{length, get_or}
+use lib.ListN.{get_or}
 use lib.Seq.{length-take-le}
 use Rattle.recorded.specs.Decimals.{wholes_listed, whole_in}
 use Rattle.recorded.proofs.Fronts.{as_before, list_none, list_all}

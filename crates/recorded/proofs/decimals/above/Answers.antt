@@ -1,6 +1,4 @@
 -- `decimals::above` meets its contract.
-use Prim.Native.Nat.{◌-◌}
-use native.Mathlib.Omega.{arith}
 use Rattle.recorded.proofs.Numbers.{above_none, above_some}
 use Rattle.recorded.proofs.decimals.above.Goals as goal
 

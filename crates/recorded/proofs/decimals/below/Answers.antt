@@ -1,6 +1,4 @@
 -- `decimals::below` meets its contract.
-use Prim.Native.Nat.{◌-◌}
-use native.Mathlib.Omega.{arith}
 use Rattle.recorded.proofs.Numbers.{below_none, below_some, minus_fits, minus_fits_32}
 use Rattle.recorded.proofs.decimals.below.Goals as goal
 

@@ -1,10 +1,8 @@
 -- `decimals::digits` meets its contract.
-use mathlib.Core.Path.{◌≡◌, refl, sym, ap, ◌∙◌}
-use Prim.Native.Nat.{◌+◌, ◌-◌, ◌≤◌}
+use mathlib.Core.Path.{refl, sym, ap, ◌∙◌}
 use native.Mathlib.Omega.{arith}
-use borrow.Author.Rules.{rules}
-use lib.ListN.{get_or, length, drop}
-use Rattle.recorded.specs.Decimals.{word, word_at, word_end}
+use lib.ListN.{get_or, length}
+use Rattle.recorded.specs.Decimals.{word_at, word_end}
 use Rattle.recorded.specs.Digits.{number, natural_from, word_read}
 use Rattle.recorded.proofs.Numbers.{more_digits, not_above}
 use Rattle.recorded.proofs.Words.{no_word, word_stops, word_goes_on}

@@ -1,13 +1,9 @@
 -- `decimals::digits` meets its contract.
-use mathlib.Core.Path.{◌≡◌, refl, sym, ap, ◌∙◌}
+use mathlib.Core.Path.{◌≡◌}
 use Prim.Native.Nat.{◌+◌, ◌-◌, ◌≤◌}
-use native.Mathlib.Omega.{arith}
-use borrow.Author.Rules.{rules}
-use lib.ListN.{get_or, length, drop}
-use Rattle.recorded.specs.Decimals.{word, word_at, word_end}
-use Rattle.recorded.specs.Digits.{number, natural_from, word_read}
-use Rattle.recorded.proofs.Numbers.{more_digits, not_above}
-use Rattle.recorded.proofs.Words.{no_word, word_stops, word_goes_on}
+use lib.ListN.{length, drop}
+use Rattle.recorded.specs.Decimals.{word}
+use Rattle.recorded.specs.Digits.{number}
 use Rattle.recorded.proofs.decimals.digits.Given as goal
 
 abbrev pub invariant-loop-i : goal.invariant-loop-i

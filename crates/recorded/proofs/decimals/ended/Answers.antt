@@ -1,5 +1,4 @@
 -- `decimals::ended` meets its contract.
-use Prim.Native.Nat.{◌-◌}
 use native.Mathlib.Omega.{arith}
 use borrow.Author.Tests.{eq-eqb, ne_eqb}
 use Rattle.recorded.proofs.decimals.ended.Goals as goal

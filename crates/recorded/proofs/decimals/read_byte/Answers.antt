@@ -1,7 +1,5 @@
 -- `decimals::read_byte` meets its contract.
 use mathlib.Core.Path.{◌∙◌}
-use Prim.Native.Nat.{◌-◌}
-use native.Mathlib.Omega.{arith}
 use Rattle.recorded.proofs.Numbers.{byte_none, byte_some, byte_is}
 use Rattle.recorded.proofs.decimals.read_byte.Goals as goal
 

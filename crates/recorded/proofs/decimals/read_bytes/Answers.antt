@@ -1,11 +1,9 @@
 -- `decimals::read_bytes` meets its contract.
 use mathlib.Core.Bool.{◌&&◌}
 use mathlib.Core.Path.{ap, ◌∙◌}
-use Prim.Native.Nat.{◌-◌}
 use native.Mathlib.Omega.{arith}
-use lib.ListN.{length}
 use Rattle.recorded.specs.Decimals.{byte_at}
-use Rattle.recorded.proofs.Places.{Read, read_none, read_more, read_all}
+use Rattle.recorded.proofs.Places.{read_none, read_more, read_all}
 use Rattle.recorded.proofs.decimals.read_bytes.Goals as goal
 
 pub loop-i-init : goal.loop-i-init
@@ -37,5 +35,7 @@ returns c =
     let a = c.args in
     let text = a.text.now in
     let l = c.loop-i in
+    let k =
     read_all 0 (λ k. (byte_at text k).value) (λ k. (byte_at text k).good) text a.at a.out.now
-    l.invariant c.loop-i-test.false
+    l.invariant c.loop-i-test.false in
+    record { value = k.0; holds = k.1 }

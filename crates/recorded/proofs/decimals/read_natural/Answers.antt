@@ -1,6 +1,5 @@
 -- `decimals::read_natural` meets its contract.
 use mathlib.Core.Path.{ap, ◌∙◌}
-use Prim.Native.Nat.{◌-◌}
 use Rattle.recorded.specs.Decimals.{natural_at}
 use Rattle.recorded.specs.Digits.{natural_from}
 use Rattle.recorded.proofs.decimals.read_natural.Goals as goal

@@ -1,16 +1,14 @@
 -- `decimals::read_wholes` meets its contract.
 use mathlib.Core.Bool.{◌&&◌}
 use mathlib.Core.Path.{subst, sym, ap, ◌∙◌}
-use Prim.Native.Nat.{◌-◌}
 use native.Mathlib.Omega.{arith}
 use lib.IntN.{pos}
-use lib.ListN.{length}
 use mir.Facts.{to_z-of_z}
 use mir.Syntax.{w32}
 use mir.Val.{SFits}
 use Rattle.recorded.specs.Decimals.{whole_at}
 use Rattle.recorded.proofs.Numbers.{whole_fits}
-use Rattle.recorded.proofs.Places.{Read, read_none, read_more, read_all}
+use Rattle.recorded.proofs.Places.{read_none, read_more, read_all}
 use Rattle.recorded.proofs.decimals.read_wholes.Goals as goal
 
 pub loop-i-init : goal.loop-i-init
@@ -43,5 +41,7 @@ returns c =
     let a = c.args in
     let text = a.text.now in
     let l = c.loop-i in
+    let k =
     read_all (pos 0) (λ k. (whole_at text k).value) (λ k. (whole_at text k).good) text a.at a.out.now
-    l.invariant c.loop-i-test.false
+    l.invariant c.loop-i-test.false in
+    record { value = k.0; holds = k.1 }

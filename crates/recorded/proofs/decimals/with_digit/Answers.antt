@@ -1,6 +1,4 @@
 -- `decimals::with_digit` meets its contract.
-use Prim.Native.Nat.{◌-◌}
-use native.Mathlib.Omega.{arith}
 use Rattle.recorded.proofs.Numbers.{too_low, too_high, too_large, one_more}
 use Rattle.recorded.proofs.decimals.with_digit.Goals as goal
 

@@ -1,9 +1,8 @@
 -- `decimals::word_end` meets its contract.
-use mathlib.Core.Path.{◌≡◌, refl, ap}
-use Prim.Native.Nat.{◌+◌, ◌-◌}
+use mathlib.Core.Path.{ap}
 use native.Mathlib.Omega.{arith}
-use lib.ListN.{length, drop}
-use Rattle.recorded.specs.Decimals.{word, word_at, word_end}
+use lib.ListN.{length}
+use Rattle.recorded.specs.Decimals.{word_at, word_end}
 use Rattle.recorded.proofs.Words.{no_word, word_stops, word_goes_on}
 use Rattle.recorded.proofs.decimals.word_end.Goals as goal
 

@@ -1,9 +1,6 @@
 -- `decimals::word_start` meets its contract.
-use mathlib.Core.Path.{◌≡◌, refl}
-use Prim.Native.Nat.{◌+◌, ◌-◌}
 use native.Mathlib.Omega.{arith}
-use lib.ListN.{length, drop}
-use Rattle.recorded.specs.Decimals.{blanks, word_start}
+use Rattle.recorded.specs.Decimals.{word_start}
 use Rattle.recorded.proofs.Words.{no_blanks, blanks_stop, blanks_go_on}
 use Rattle.recorded.proofs.decimals.word_start.Goals as goal
 

@@ -1,10 +1,8 @@
 -- `decimals::word_start` meets its contract.
-use mathlib.Core.Path.{◌≡◌, refl}
+use mathlib.Core.Path.{◌≡◌}
 use Prim.Native.Nat.{◌+◌, ◌-◌}
-use native.Mathlib.Omega.{arith}
 use lib.ListN.{length, drop}
-use Rattle.recorded.specs.Decimals.{blanks, word_start}
-use Rattle.recorded.proofs.Words.{no_blanks, blanks_stop, blanks_go_on}
+use Rattle.recorded.specs.Decimals.{blanks}
 use Rattle.recorded.proofs.decimals.word_start.Given as goal
 
 abbrev pub invariant-loop-i : goal.invariant-loop-i

@@ -1,7 +1,6 @@
 -- `floats::bits` meets its contract: what does not differ from itself is a number, and has bits of its own.
 use mathlib.Core.Path.{◌≡◌, refl, sym, subst, ◌∙◌}
 use mathlib.Core.Bool.{true, false, not, true≢false}
-use borrow.Author.Rules.{rules}
 use lib.Dec.{T}
 use lib.Ieee.{Float, nan, inf, fin, binary64, ne, is_nan, to_bits}
 use lib.Ieee.Compare.{nan_differs, differs_from_itself}

@@ -1,9 +1,5 @@
 -- `lent::agree` meets its contract.
-use mathlib.Core.Path.{◌≡◌}
-use Prim.Native.Nat.{◌+◌, ◌-◌}
 use native.Mathlib.Omega.{arith}
-use lib.ListN.{length, drop}
-use Rattle.recorded.specs.Lent.{agreeing}
 use Rattle.recorded.proofs.Places.{first_ends, second_ends, differ, agree_on}
 use Rattle.recorded.proofs.lent.agree.Goals as goal
 

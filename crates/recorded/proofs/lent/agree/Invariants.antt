@@ -1,10 +1,8 @@
 -- `lent::agree` meets its contract.
 use mathlib.Core.Path.{◌≡◌}
 use Prim.Native.Nat.{◌+◌, ◌-◌}
-use native.Mathlib.Omega.{arith}
 use lib.ListN.{length, drop}
 use Rattle.recorded.specs.Lent.{agreeing}
-use Rattle.recorded.proofs.Places.{first_ends, second_ends, differ, agree_on}
 use Rattle.recorded.proofs.lent.agree.Given as goal
 
 abbrev pub invariant-loop-i : goal.invariant-loop-i

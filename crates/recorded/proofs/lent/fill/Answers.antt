@@ -1,9 +1,7 @@
 -- `lent::fill` meets its contract.
-use Prim.Native.Nat.{◌-◌, ◌≤◌}
 use native.Mathlib.Omega.{arith}
-use lib.ListN.{length}
 use Rattle.recorded.specs.Lent.{unwritten}
-use Rattle.recorded.proofs.Places.{Held, held_none, held_more, held_all}
+use Rattle.recorded.proofs.Places.{held_none, held_more, held_all}
 use Rattle.recorded.proofs.lent.fill.Goals as goal
 
 pub loop-i-init : goal.loop-i-init

@@ -1,9 +1,8 @@
 -- `lent::fill` meets its contract.
 use Prim.Native.Nat.{◌-◌, ◌≤◌}
-use native.Mathlib.Omega.{arith}
 use lib.ListN.{length}
 use Rattle.recorded.specs.Lent.{unwritten}
-use Rattle.recorded.proofs.Places.{Held, held_none, held_more, held_all}
+use Rattle.recorded.proofs.Places.{Held}
 use Rattle.recorded.proofs.lent.fill.Given as goal
 
 abbrev pub invariant-loop-i : goal.invariant-loop-i

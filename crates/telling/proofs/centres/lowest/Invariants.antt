@@ -1,18 +1,16 @@
 -- `centres::lowest`: the first centre is looked for from p on.
-use mathlib.Core.Bool.{Bool}
-use mathlib.Core.List.{List}
-use mathlib.Core.Path.{◌≡◌, refl, sym, ◌∙◌}
-use Prim.Native.Nat.{ℕ, ◌-◌}
+use mathlib.Core.Path.{◌≡◌}
+use Prim.Native.Nat.{◌-◌}
 use lib.ListN.{length, drop}
-use borrow.Author.Rules.{rules}
 use Rattle.rules.specs.Cells.{both_see}
 use Rattle.rules.specs.Lays.{all, centre}
 use Rattle.rules.specs.Lays as lays
-use Rattle.telling.proofs.Corners.{corner_small, first_on, first_at, first_end}
 use Rattle.telling.proofs.centres.lowest.Given as goal
 
 abbrev pub invariant-loop-p : goal.invariant-loop-p
-invariant-loop-p l = centre (both_see l.first l.second) l.piece ≡ lays.first (λ x. all (both_see l.first l.second x) l.piece) (drop l.p l.piece)
+invariant-loop-p l =
+    centre (both_see l.first l.second) l.piece
+    ≡ lays.first (λ x. all (both_see l.first l.second x) l.piece) (drop l.p l.piece)
 
 abbrev pub decreases-loop-p : goal.decreases-loop-p
 decreases-loop-p l = length l.piece - l.p

@@ -1,7 +1,6 @@
 -- `ranges::piece`: the corners after the first, and then the three numbers before them.
 use native.Mathlib.Omega.{arith}
 use lib.ListN.{length-set}
-use borrow.Author.Rules.{rules}
 use Rattle.rules.specs.Walk.{corners_few}
 use Rattle.telling.proofs.Tellings.{pairs_wide}
 use Rattle.telling.proofs.Stores.{wrote_piece}
@@ -9,8 +8,8 @@ use Rattle.telling.proofs.ranges.piece.Goals as goal
 
 pub overflow_cast-out : goal.overflow_cast-out
 overflow_cast-out c =
-    let few = corners_few (pairs_wide c.args.pairs.now) _ _ c.pre.0.1 in
-    omega (arith, few, c.pre.0, c.spell-past.ensures.past)
+    let few = corners_few (pairs_wide c.args.pairs.now) _ _ c.requires.all_cells_in_bounds.1 in
+    omega (arith, few, c.requires.all_cells_in_bounds, c.spell-past.ensures.past)
 
 pub bounds-out-at-2 : goal.bounds-out-at-2
 bounds-out-at-2 c = simp length-set (omega arith)
