@@ -20,7 +20,7 @@ loop-b-init c =
     (
       omega arith,
       omega arith,
-      omega (arith, c.put.auto.0, c.requires.2),
+      omega (arith, c.put.auto.t, c.requires.2),
       simp length-set refl,
       laning_none c.args.col.now (omega arith) c.requires.4 c.requires.2 refl blank
           c.cell-end.ensures c.put.ensures,
@@ -45,7 +45,7 @@ loop-b-preserved c =
     let pre = c.requires in (
       omega arith,
       omega arith,
-      omega (arith, c.put-in-loop-b.auto.0, c.loop-b.invariant.2),
+      omega (arith, c.put-in-loop-b.auto.t, c.loop-b.invariant.2),
       simp length-set c.loop-b.invariant.3,
       laning_more pre.0 (omega arith) (omega arith) pre.4 c.loop-b.invariant.2 c.loop-b.invariant.3
           (laning_at (omega arith) c.loop-b.invariant.4) c.reach.ensures

@@ -15,7 +15,7 @@ pub loop-x-preserved : goal.loop-x-preserved
 loop-x-preserved c =
     let loop = c.loop-x in (
       omega arith,
-      omega (arith, c.put.auto.0, loop.invariant.1),
+      omega (arith, c.put.auto.t, loop.invariant.1),
       begins_more loop.invariant.2 loop.invariant.1 (omega arith) (omega arith) c.cell.ensures
           c.put.ensures,
     )

@@ -15,7 +15,7 @@ pub loop-x-preserved : goal.loop-x-preserved
 loop-x-preserved c =
     let pre = c.requires in (
       omega (arith, c.loop-x-test.true),
-      omega (arith, c.put.auto.0, c.loop-x.invariant.1),
+      omega (arith, c.put.auto.t, c.loop-x.invariant.1),
       finishes_more c.loop-x.invariant.2 c.loop-x.invariant.1 pre.3.0 pre.3.1
           c.loop-x-test.true
           c.cell.ensures c.sum.ensures c.low-whole.ensures

@@ -19,7 +19,7 @@ column-requires c =
 
 pub loop-j-preserved : goal.loop-j-preserved
 loop-j-preserved c =
-    (omega arith, omega (arith, c.column.auto.1.1.1.1.1.0), c.column.ensures)
+    (omega arith, omega (arith, c.column.auto.col), c.column.ensures)
 
 pub returns : goal.returns
 returns c = filled_at (omega arith) c.loop-j.invariant.2

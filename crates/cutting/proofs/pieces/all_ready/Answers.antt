@@ -20,9 +20,9 @@ pub ready-requires : goal.ready-requires
 ready-requires c =
     let pre = c.requires in record { routes = (
         record {
-          val-size = pre.routes.0.val_size;
-          left-size = pre.routes.0.left_size;
-          col-size = c.loop-x.invariant.2;
+          val_size = pre.routes.0.val_size;
+          left_size = pre.routes.0.left_size;
+          col_size = c.loop-x.invariant.2;
           last = pre.routes.0.last;
         },
         pre.routes.1,
@@ -41,7 +41,7 @@ loop-x-preserved c =
     let loop = c.loop-x in (
       omega arith,
       omega arith,
-      omega (arith, c.ready.auto.1.1.1.1.0, loop.invariant.2),
+      omega (arith, c.ready.auto.col, loop.invariant.2),
       c.ready.ensures,
     )
 

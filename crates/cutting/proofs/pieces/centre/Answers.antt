@@ -15,9 +15,9 @@ pub all_ready-requires : goal.all_ready-requires
 all_ready-requires c =
     let pre = c.requires in record { routes = (
         record {
-          val-size = pre.0.val_size;
-          left-size = pre.0.left_size;
-          col-size = omega (arith, pre.0.col_size, c.lane.auto.1.1.0);
+          val_size = pre.0.val_size;
+          left_size = pre.0.left_size;
+          col_size = omega (arith, pre.0.col_size, c.lane.auto.col);
           last = pre.0.last;
         },
         pre.1,

@@ -20,8 +20,8 @@ loop-x-preserved c =
     let a = c.cell-a.ensures in
     let b = c.cell-b.ensures in (
       omega (arith, c.loop-x-test.true),
-      omega (arith, c.put.auto.0, c.loop-x.invariant.1),
-      omega (arith, c.put-in-loop-x.auto.0, c.loop-x.invariant.2),
+      omega (arith, c.put.auto.t, c.loop-x.invariant.1),
+      omega (arith, c.put-in-loop-x.auto.t, c.loop-x.invariant.2),
       reading_more pre.all_cells_in_bounds.3 pre.all_cells_in_bounds.2 c.loop-x-test.true c.loop-x.invariant.3
           (c.mark.ensures ∙ ap₂ cut_by a b) (c.shade.ensures ∙ ap₂ veil_by a b)
           c.put.ensures c.put-in-loop-x.ensures,

@@ -20,7 +20,7 @@ overflow_sub-n c =
 pub put-requires : goal.put-requires
 put-requires c =
     let pre = c.requires in (
-      omega (arith, pre.veil.2, c.start.auto.0, c.trace_all.auto.1.1.1.1.1.1.0),
+      omega (arith, pre.veil.2, c.start.auto.pairs, c.trace_all.auto.pairs),
       omega arith,
       omega (arith, pre.solvable.1.three, pre.solvable.1.small),
     )
@@ -29,9 +29,9 @@ pub shape_of-pairs : goal.shape_of-pairs
 shape_of-pairs c =
     omega (
       arith,
-      c.start.auto.0,
-      c.trace_all.auto.1.1.1.1.1.1.0,
-      c.put.auto.0,
+      c.start.auto.pairs,
+      c.trace_all.auto.pairs,
+      c.put.auto.t,
     )
 
 pub returns : goal.returns

@@ -19,8 +19,8 @@ pub loop-j-preserved : goal.loop-j-preserved
 loop-j-preserved c =
     let loop = c.loop-j in (
       omega arith,
-      omega (arith, loop.invariant.1, c.trace_column.auto.1.1.1.1.0),
-      omega (arith, c.trace_column.auto.1.1.1.1.1.1.0),
+      omega (arith, loop.invariant.1, c.trace_column.auto.col),
+      omega (arith, c.trace_column.auto.pairs),
       λ cuts n t. c.trace_column.ensures cuts n (tracing_at (omega arith) (loop.invariant.3 cuts n t)),
     )
 

@@ -20,8 +20,8 @@ pub loop-i-preserved : goal.loop-i-preserved
 loop-i-preserved c =
     let loop = c.loop-i in (
       omega arith,
-      omega (arith, loop.invariant.1, c.visit.auto.1.1.1.1.0),
-      omega (arith, c.visit.auto.1.1.1.1.1.1.1.0),
+      omega (arith, loop.invariant.1, c.visit.auto.col),
+      omega (arith, c.visit.auto.pairs),
       λ cuts n t. c.visit.ensures cuts n (loop.invariant.3 cuts n t),
     )
 
