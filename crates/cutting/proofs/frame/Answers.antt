@@ -1,7 +1,6 @@
 -- `frame`: the readings, and the search by them.
 use Prim.Native.Nat.{ℕ}
 use lib.ListN.{length-replicate}
-use borrow.Author.Rules.{rules}
 use Rattle.limits.specs.Limits.{all_cells}
 use Rattle.cutting.proofs.Readings.{veil_new}
 use Rattle.cutting.proofs.Answers.{searches_none, searches_found}

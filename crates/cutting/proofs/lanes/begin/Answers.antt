@@ -1,11 +1,6 @@
 -- `lanes::begin`: the lanes below x are the veil's.
-use mathlib.Core.Path.{◌≡◌}
-use Prim.Native.Nat.{◌≤◌, ◌-◌}
-use lib.ListN.{length}
 use native.Mathlib.Omega.{arith}
-use borrow.Author.Rules.{rules}
-use Rattle.limits.specs.Limits.{row, all_cells}
-use Rattle.cutting.proofs.Rows.{Begins, begins_none, begins_more, begins_end}
+use Rattle.cutting.proofs.Rows.{begins_none, begins_more, begins_end}
 use Rattle.cutting.proofs.lanes.begin.Goals as goal
 
 pub loop-x-init : goal.loop-x-init

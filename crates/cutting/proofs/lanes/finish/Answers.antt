@@ -1,11 +1,6 @@
 -- `lanes::finish`: the lanes below x are the row's.
-use mathlib.Core.Path.{◌≡◌}
-use Prim.Native.Nat.{◌≤◌, ◌-◌}
-use lib.ListN.{length}
 use native.Mathlib.Omega.{arith}
-use borrow.Author.Rules.{rules}
-use Rattle.limits.specs.Limits.{row, all_cells}
-use Rattle.cutting.proofs.Rows.{Finishes, finishes_none, finishes_more, finishes_end}
+use Rattle.cutting.proofs.Rows.{finishes_none, finishes_more, finishes_end}
 use Rattle.cutting.proofs.lanes.finish.Goals as goal
 
 pub loop-x-init : goal.loop-x-init

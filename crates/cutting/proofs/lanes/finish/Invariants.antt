@@ -2,10 +2,8 @@
 use mathlib.Core.Path.{◌≡◌}
 use Prim.Native.Nat.{◌≤◌, ◌-◌}
 use lib.ListN.{length}
-use native.Mathlib.Omega.{arith}
-use borrow.Author.Rules.{rules}
 use Rattle.limits.specs.Limits.{row, all_cells}
-use Rattle.cutting.proofs.Rows.{Finishes, finishes_none, finishes_more, finishes_end}
+use Rattle.cutting.proofs.Rows.{Finishes}
 use Rattle.cutting.proofs.lanes.finish.Given as goal
 
 abbrev pub invariant-loop-x : goal.invariant-loop-x

@@ -1,9 +1,5 @@
 -- `lines::column`: the lines that start at i or later are done.
-use mathlib.Core.Path.{◌≡◌}
-use Prim.Native.Nat.{◌≤◌}
-use lib.ListN.{length}
 use native.Mathlib.Omega.{arith}
-use Rattle.cutting.specs.Rows.{Filling}
 use Rattle.cutting.proofs.Fill.{filling_begun, filling_at, filled_more}
 use Rattle.cutting.proofs.lines.column.Goals as goal
 

@@ -2,9 +2,7 @@
 use mathlib.Core.Path.{◌≡◌}
 use Prim.Native.Nat.{◌≤◌}
 use lib.ListN.{length}
-use native.Mathlib.Omega.{arith}
 use Rattle.cutting.specs.Rows.{Filling}
-use Rattle.cutting.proofs.Fill.{filling_begun, filling_at, filled_more}
 use Rattle.cutting.proofs.lines.column.Given as goal
 
 abbrev pub invariant-loop-i : goal.invariant-loop-i

@@ -1,9 +1,6 @@
 -- `lines::solve`: the lines to a corner below j are done.
-use mathlib.Core.Path.{◌≡◌, refl}
-use Prim.Native.Nat.{◌≤◌, ◌-◌}
-use lib.ListN.{length}
+use mathlib.Core.Path.{refl}
 use native.Mathlib.Omega.{arith}
-use Rattle.cutting.specs.Rows.{Filled}
 use Rattle.cutting.proofs.Fill.{filled_none, filled_at}
 use Rattle.cutting.proofs.lines.solve.Goals as goal
 

@@ -1,10 +1,8 @@
 -- `lines::solve`: the lines to a corner below j are done.
-use mathlib.Core.Path.{◌≡◌, refl}
+use mathlib.Core.Path.{◌≡◌}
 use Prim.Native.Nat.{◌≤◌, ◌-◌}
 use lib.ListN.{length}
-use native.Mathlib.Omega.{arith}
 use Rattle.cutting.specs.Rows.{Filled}
-use Rattle.cutting.proofs.Fill.{filled_none, filled_at}
 use Rattle.cutting.proofs.lines.solve.Given as goal
 
 abbrev pub invariant-loop-j : goal.invariant-loop-j

@@ -1,10 +1,5 @@
 -- `pieces::all_ready`: the lanes of the centres below x that serve are there.
-use mathlib.Core.Path.{◌≡◌}
-use Prim.Native.Nat.{◌+◌, ◌-◌, ◌≤◌}
-use lib.ListN.{length}
 use native.Mathlib.Omega.{arith}
-use Rattle.limits.specs.Limits.{all_cells}
-use Rattle.cutting.specs.Tracing.{Lanes}
 use Rattle.cutting.proofs.Relaid.{lanes_at}
 use Rattle.cutting.proofs.pieces.all_ready.Goals as goal
 
@@ -18,7 +13,8 @@ overflow_add-j c = omega (arith, c.requires.routes.0.last)
 
 pub ready-requires : goal.ready-requires
 ready-requires c =
-    let pre = c.requires in record { routes = (
+    let pre = c.requires in record {
+      routes = (
         record {
           val_size = pre.routes.0.val_size;
           left_size = pre.routes.0.left_size;
@@ -29,7 +25,9 @@ ready-requires c =
         pre.routes.2,
         omega arith,
         omega arith,
-      ); lanes = c.loop-x.invariant.3 }
+      );
+      lanes = c.loop-x.invariant.3;
+    }
 
 pub overflow_add-x : goal.overflow_add-x
 overflow_add-x c =

@@ -2,10 +2,8 @@
 use mathlib.Core.Path.{◌≡◌}
 use Prim.Native.Nat.{◌+◌, ◌-◌, ◌≤◌}
 use lib.ListN.{length}
-use native.Mathlib.Omega.{arith}
 use Rattle.limits.specs.Limits.{all_cells}
 use Rattle.cutting.specs.Tracing.{Lanes}
-use Rattle.cutting.proofs.Relaid.{lanes_at}
 use Rattle.cutting.proofs.pieces.all_ready.Given as goal
 
 abbrev pub invariant-loop-x : goal.invariant-loop-x

@@ -1,11 +1,7 @@
 -- `pieces::every`: every corner before c is taken.
-use mathlib.Core.Path.{◌≡◌, sym}
+use mathlib.Core.Path.{◌≡◌}
 use Prim.Native.Nat.{ℕ, suc, ◌≤◌, ◌<◌, ◌-◌}
-use native.Mathlib.Omega.{arith}
-use borrow.Author.Rules.{rules}
-use borrow.Author.Count.{below_more}
 use Rattle.cutting.specs.Tracing.{next_in}
-use Rattle.cutting.proofs.Values.{clash}
 use Rattle.cutting.proofs.pieces.every.Given as goal
 
 abbrev pub invariant-loop-c : goal.invariant-loop-c

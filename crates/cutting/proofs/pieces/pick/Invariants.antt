@@ -1,12 +1,10 @@
 -- `pieces::pick`: best is the pick of the centres below x.
 use mathlib.Core.Path.{◌≡◌}
 use Prim.Native.Nat.{◌≤◌, ◌-◌, ◌+◌}
-use native.Mathlib.Omega.{arith}
 use Rattle.rules.specs.Cutting.{one}
 use Rattle.rules.specs.Choice.{pick_from}
 use Rattle.rules.specs.Cells.{cell}
 use Rattle.cutting.specs.Rows.{none}
-use Rattle.cutting.proofs.Corners.{pick_range, pick_none, pick_more, pick_end}
 use Rattle.cutting.proofs.pieces.pick.Given as goal
 
 abbrev pub invariant-loop-x : goal.invariant-loop-x

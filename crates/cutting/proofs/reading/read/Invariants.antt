@@ -2,10 +2,8 @@
 use mathlib.Core.Path.{◌≡◌}
 use Prim.Native.Nat.{◌≤◌, ◌-◌}
 use lib.ListN.{length}
-use native.Mathlib.Omega.{arith}
 use Rattle.limits.specs.Limits.{all_cells}
 use Rattle.cutting.specs.Rows.{Read}
-use Rattle.cutting.proofs.Readings.{read_none, read_at}
 use Rattle.cutting.proofs.reading.read.Given as goal
 
 abbrev pub invariant-loop-y : goal.invariant-loop-y

@@ -1,12 +1,8 @@
 -- `reading::read_corner`: the corners below x have been read with y.
-use mathlib.Core.Path.{◌≡◌, ap₂, ◌∙◌}
-use Prim.Native.Nat.{◌≤◌, ◌-◌}
-use lib.ListN.{length}
+use mathlib.Core.Path.{ap₂, ◌∙◌}
 use native.Mathlib.Omega.{arith}
-use borrow.Author.Rules.{rules}
-use Rattle.limits.specs.Limits.{all_cells}
 use Rattle.cutting.specs.Rows.{cut_by, veil_by}
-use Rattle.cutting.proofs.Readings.{Reading, reading_none, reading_more, reading_end}
+use Rattle.cutting.proofs.Readings.{reading_none, reading_more, reading_end}
 use Rattle.cutting.proofs.reading.read_corner.Goals as goal
 
 pub loop-x-init : goal.loop-x-init

@@ -1,12 +1,9 @@
 -- `reading::read_corner`: the corners below x have been read with y.
-use mathlib.Core.Path.{◌≡◌, ap₂, ◌∙◌}
+use mathlib.Core.Path.{◌≡◌}
 use Prim.Native.Nat.{◌≤◌, ◌-◌}
 use lib.ListN.{length}
-use native.Mathlib.Omega.{arith}
-use borrow.Author.Rules.{rules}
 use Rattle.limits.specs.Limits.{all_cells}
-use Rattle.cutting.specs.Rows.{cut_by, veil_by}
-use Rattle.cutting.proofs.Readings.{Reading, reading_none, reading_more, reading_end}
+use Rattle.cutting.proofs.Readings.{Reading}
 use Rattle.cutting.proofs.reading.read_corner.Given as goal
 
 abbrev pub invariant-loop-x : goal.invariant-loop-x

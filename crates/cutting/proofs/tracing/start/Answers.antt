@@ -1,6 +1,5 @@
 -- `tracing::start`: the whole range alone.
 use native.Mathlib.Omega.{arith}
-use borrow.Author.Rules.{rules}
 use Rattle.cutting.proofs.Marking.{started}
 use Rattle.cutting.proofs.tracing.start.Goals as goal
 

@@ -1,10 +1,6 @@
 -- `tracing::trace_column`: the ranges to j from below i have been met.
-use mathlib.Core.Path.{◌≡◌, refl}
-use Prim.Native.Nat.{◌+◌, ◌-◌, ◌≤◌}
-use lib.ListN.{length}
+use mathlib.Core.Path.{refl}
 use native.Mathlib.Omega.{arith}
-use Rattle.limits.specs.Limits.{row, all_cells}
-use Rattle.cutting.specs.Tracing.{Goes}
 use Rattle.cutting.proofs.Traced.{tracing_open, tracing_close}
 use Rattle.cutting.proofs.tracing.trace_column.Goals as goal
 

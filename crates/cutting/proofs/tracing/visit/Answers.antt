@@ -58,6 +58,6 @@ returns c =
     λ cuts n t.
     let pre = c.requires in
     let h : T (marked c.args.pairs.now c.args.i c.args.j) =
-        in_set c.args.i c.args.j pre.veil.2 pre.veil.3 (λ e. c.if-cell-eq0.false (c.cell.ensures ∙ e)) t.ticks
+    in_set c.args.i c.args.j pre.veil.2 pre.veil.3 (λ e. c.if-cell-eq0.false (c.cell.ensures ∙ e)) t.ticks
     in
     tracing_by t h (c.centre-x.ensures _ _ _ t h).1 c.mark.ensures
