@@ -9,7 +9,10 @@ use Rattle.cutting.proofs.frame.Goals as goal
 pub read-requires : goal.read-requires
 read-requires c =
     let pre = c.requires in
-    record { all_cells_in_bounds = (pre.0.first_cells, pre.0.second_cells, pre.0.most); cuts_len = (length-replicate {0} {A = ℕ} all_cells 0, veil_new) }
+    record {
+      all_cells_in_bounds = (pre.0.first_cells, pre.0.second_cells, pre.0.most);
+      cuts_len = (length-replicate {0} {A = ℕ} all_cells 0, veil_new);
+    }
 
 pub returns-then-find : goal.returns-then-find
 returns-then-find c =

@@ -7,7 +7,9 @@ use Rattle.cutting.proofs.Relaid.{Laning}
 use Rattle.cutting.proofs.again.lane.Given as goal
 
 abbrev pub invariant-loop-b : goal.invariant-loop-b
-invariant-loop-b l = (l.x ≤ l.b) × (l.b ≤ l.j) × (length l.col ≡ all_cells) × (length l.g ≡ row) × Laning l.veil l.val l.initial.col l.col l.g l.x l.j l.b
+invariant-loop-b l =
+    (l.x ≤ l.b) × (l.b ≤ l.j) × (length l.col ≡ all_cells) × (length l.g ≡ row) ×
+    Laning l.veil l.val l.initial.col l.col l.g l.x l.j l.b
 
 abbrev pub decreases-loop-b : goal.decreases-loop-b
 decreases-loop-b l = l.b

@@ -7,7 +7,8 @@ use Rattle.cutting.proofs.Rows.{Finishes}
 use Rattle.cutting.proofs.lanes.finish.Given as goal
 
 abbrev pub invariant-loop-x : goal.invariant-loop-x
-invariant-loop-x l = (l.x ≤ row) × (length l.col ≡ all_cells) × Finishes l.first l.veil l.initial.col l.col l.i l.j l.v l.x
+invariant-loop-x l =
+    (l.x ≤ row) × (length l.col ≡ all_cells) × Finishes l.first l.veil l.initial.col l.col l.i l.j l.v l.x
 
 abbrev pub decreases-loop-x : goal.decreases-loop-x
 decreases-loop-x l = row - l.x

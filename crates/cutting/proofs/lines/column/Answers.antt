@@ -40,7 +40,14 @@ loop-i-init c =
 
 pub line-requires : goal.line-requires
 line-requires c =
-    let pre = c.requires in record { all_cells_in_bounds = (pre.all_cells_in_bounds.0, pre.all_cells_in_bounds.1, (omega arith, omega (arith, pre.all_cells_in_bounds.3))); filling = filling_at (omega arith) c.loop-i.invariant.2 }
+    let pre = c.requires in record {
+      all_cells_in_bounds = (
+        pre.all_cells_in_bounds.0,
+        pre.all_cells_in_bounds.1,
+        (omega arith, omega (arith, pre.all_cells_in_bounds.3)),
+      );
+      filling = filling_at (omega arith) c.loop-i.invariant.2;
+    }
 
 pub loop-i-preserved : goal.loop-i-preserved
 loop-i-preserved c =

@@ -8,7 +8,10 @@ use Rattle.cutting.proofs.lines.line.Goals as goal
 pub sweep-requires : goal.sweep-requires
 sweep-requires c =
     let pre = c.requires in
-    record { val_len = (pre.filling.old.val_size, pre.filling.col_size, refl); line = (pre.all_cells_in_bounds.2, blank) }
+    record {
+      val_len = (pre.filling.old.val_size, pre.filling.col_size, refl);
+      line = (pre.all_cells_in_bounds.2, blank);
+    }
 
 pub put-requires : goal.put-requires
 put-requires c =

@@ -12,7 +12,15 @@ loop-j-init c =
 pub column-requires : goal.column-requires
 column-requires c =
     let pre = c.requires in
-    record { all_cells_in_bounds = (pre.all_cells_in_bounds.0, pre.all_cells_in_bounds.1, omega (arith, pre.val_len.3), omega (arith, pre.all_cells_in_bounds.2)); filled = c.loop-j.invariant.2 }
+    record {
+      all_cells_in_bounds = (
+        pre.all_cells_in_bounds.0,
+        pre.all_cells_in_bounds.1,
+        omega (arith, pre.val_len.3),
+        omega (arith, pre.all_cells_in_bounds.2),
+      );
+      filled = c.loop-j.invariant.2;
+    }
 
 pub loop-j-preserved : goal.loop-j-preserved
 loop-j-preserved c =

@@ -7,7 +7,8 @@ use Rattle.cutting.specs.Tracing.{Lanes}
 use Rattle.cutting.proofs.pieces.all_ready.Given as goal
 
 abbrev pub invariant-loop-x : goal.invariant-loop-x
-invariant-loop-x l = (l.i ≤ l.x) × (l.x ≤ l.j + 1) × (length l.col ≡ all_cells) × Lanes l.veil l.val l.left l.right l.col l.i l.j l.x
+invariant-loop-x l =
+    (l.i ≤ l.x) × (l.x ≤ l.j + 1) × (length l.col ≡ all_cells) × Lanes l.veil l.val l.left l.right l.col l.i l.j l.x
 
 abbrev pub decreases-loop-x : goal.decreases-loop-x
 decreases-loop-x l = l.j + 1 - l.x

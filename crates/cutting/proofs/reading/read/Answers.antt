@@ -11,7 +11,15 @@ loop-y-init c =
 pub read_corner-requires : goal.read_corner-requires
 read_corner-requires c =
     let pre = c.requires in
-    record { all_cells_in_bounds = (pre.all_cells_in_bounds.0, pre.all_cells_in_bounds.1, omega arith, pre.all_cells_in_bounds.2); read = c.loop-y.invariant.3 }
+    record {
+      all_cells_in_bounds = (
+        pre.all_cells_in_bounds.0,
+        pre.all_cells_in_bounds.1,
+        omega arith,
+        pre.all_cells_in_bounds.2,
+      );
+      read = c.loop-y.invariant.3;
+    }
 
 pub loop-y-preserved : goal.loop-y-preserved
 loop-y-preserved c = (

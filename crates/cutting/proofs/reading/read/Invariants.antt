@@ -7,7 +7,9 @@ use Rattle.cutting.specs.Rows.{Read}
 use Rattle.cutting.proofs.reading.read.Given as goal
 
 abbrev pub invariant-loop-y : goal.invariant-loop-y
-invariant-loop-y l = (l.y ≤ l.n) × (length l.cuts ≡ all_cells) × (length l.veil ≡ all_cells) × Read l.first l.second l.cuts l.veil l.n l.y
+invariant-loop-y l =
+    (l.y ≤ l.n) × (length l.cuts ≡ all_cells) × (length l.veil ≡ all_cells) ×
+    Read l.first l.second l.cuts l.veil l.n l.y
 
 abbrev pub decreases-loop-y : goal.decreases-loop-y
 decreases-loop-y l = l.n - l.y

@@ -7,7 +7,9 @@ use Rattle.cutting.proofs.Readings.{Reading}
 use Rattle.cutting.proofs.reading.read_corner.Given as goal
 
 abbrev pub invariant-loop-x : goal.invariant-loop-x
-invariant-loop-x l = (l.x ≤ l.n) × (length l.cuts ≡ all_cells) × (length l.veil ≡ all_cells) × Reading l.first l.second l.cuts l.veil l.n l.y l.x
+invariant-loop-x l =
+    (l.x ≤ l.n) × (length l.cuts ≡ all_cells) × (length l.veil ≡ all_cells) ×
+    Reading l.first l.second l.cuts l.veil l.n l.y l.x
 
 abbrev pub decreases-loop-x : goal.decreases-loop-x
 decreases-loop-x l = l.n - l.x

@@ -10,7 +10,10 @@ start-requires c =
 
 pub trace_all-requires : goal.trace_all-requires
 trace_all-requires c =
-    let pre = c.requires in record { veil = (pre.veil.0, pre.veil.1, pre.solvable.1.small); traceable = (_, _, traceable pre.veil.0 pre.solvable.1 c.start.ensures) }
+    let pre = c.requires in record {
+      veil = (pre.veil.0, pre.veil.1, pre.solvable.1.small);
+      traceable = (_, _, traceable pre.veil.0 pre.solvable.1 c.start.ensures);
+    }
 
 pub overflow_sub-n : goal.overflow_sub-n
 overflow_sub-n c =

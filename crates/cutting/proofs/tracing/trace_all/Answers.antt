@@ -9,7 +9,14 @@ loop-j-init c = (omega arith, c.requires.veil.1, refl, λ cuts n t. t)
 
 pub trace_column-requires : goal.trace_column-requires
 trace_column-requires c =
-    let pre = c.requires in record { veil = (pre.veil.0, c.loop-j.invariant.1, omega (arith, pre.veil.2)); traceable = (_, _, tracing_at (omega arith) (c.loop-j.invariant.3 pre.traceable.0 pre.traceable.1 pre.traceable.2)) }
+    let pre = c.requires in record {
+      veil = (pre.veil.0, c.loop-j.invariant.1, omega (arith, pre.veil.2));
+      traceable = (
+        _,
+        _,
+        tracing_at (omega arith) (c.loop-j.invariant.3 pre.traceable.0 pre.traceable.1 pre.traceable.2),
+      );
+    }
 
 pub loop-j-preserved : goal.loop-j-preserved
 loop-j-preserved c =

@@ -10,7 +10,10 @@ loop-i-init c =
 
 pub visit-requires : goal.visit-requires
 visit-requires c =
-    let pre = c.requires in record { veil = (pre.veil.0, c.loop-i.invariant.1, omega arith, pre.veil.2); traceable = (_, _, c.loop-i.invariant.3 pre.traceable.0 pre.traceable.1 pre.traceable.2) }
+    let pre = c.requires in record {
+      veil = (pre.veil.0, c.loop-i.invariant.1, omega arith, pre.veil.2);
+      traceable = (_, _, c.loop-i.invariant.3 pre.traceable.0 pre.traceable.1 pre.traceable.2);
+    }
 
 pub loop-i-preserved : goal.loop-i-preserved
 loop-i-preserved c =
