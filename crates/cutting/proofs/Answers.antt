@@ -4,7 +4,7 @@ use mathlib.Core.Path.{◌≡◌, refl, sym, ap, subst, ◌∙◌}
 use mathlib.Core.Bool.{Bool, true, false}
 use mathlib.Core.Logic.{inl, inr, ◌↔◌}
 use mathlib.Core.List.{List, ◌++◌}
-use Prim.Native.Nat.{ℕ, zero, ◌+◌, ◌-◌, ◌<◌, ◌≤◌}
+use Prim.Native.Nat.{ℕ, ◌+◌, ◌-◌, ◌<◌, ◌≤◌}
 use native.Mathlib.Omega.{arith}
 use native.Mathlib.Decide.{dec_lt}
 use lib.Dec.{T}
@@ -26,38 +26,38 @@ use Rattle.cutting.proofs.Marking.{marked_says, ticks_marked}
 
 -- ---- the readings
 module _ {first second cuts veil : List ℕ} {n : ℕ} (read : Read first second cuts veil n n) where
-  same-sight : (x y : ℕ) → x < n → y < n → Sees (cell veil) x y ↔ InBoth first second x y
-  same-sight x y p q =
+  same_sight : (x y : ℕ) → x < n → y < n → Sees (cell veil) x y ↔ InBoth first second x y
+  same_sight x y p q =
       let e = read.lane x y p q in
       ((λ z. (omega arith, omega arith)), λ s. omega (arith, s.0, s.1))
 
-  same-cuts : (a b : ℕ) → Inner n a b → Cut cuts a b ↔ MayCut first second a b
-  same-cuts a b i =
+  same_cuts : (a b : ℕ) → Inner n a b → Cut cuts a b ↔ MayCut first second a b
+  same_cuts a b i =
       let e = read.cut a b (omega (arith, i.rises, i.small)) i.small in
       ((λ c. (omega arith, omega arith)), λ s z. omega (arith, s.0, s.1))
 
   agree : Agree n (stars (Cut cuts) (Sees (cell veil))) (plan first second)
-  agree = stars_agree same-cuts same-sight
+  agree = stars_agree same_cuts same_sight
 
   -- ---- the three ends
-  pub searches-none : {before after : List ℕ} {r : Bool} → Served n first second before →
+  pub searches_none : {before after : List ℕ} {r : Bool} → Served n first second before →
       Finds cuts veil n before after r → r ≡ false → Searches n first second before after NoCutting
-  searches-none s f e = record {
+  searches_none s f e = record {
     numbered = inr (s, inl ((λ c. f.no_set e c.0 ((valid_same agree c.0).1 c.1)), refl));
     kept = λ lt. f.kept e;
     found = λ z. absurd (omega (arith, z));
   }
 
-  pub searches-found : {before after : List ℕ} {r : Bool} → Served n first second before →
+  pub searches_found : {before after : List ℕ} {r : Bool} → Served n first second before →
       length before ≡ all_cells → Finds cuts veil n before after r → r ≡ true →
       Searches n first second before after Found
-  searches-found {before} {after} s size h e =
+  searches_found {before} {after} s size h e =
       let f = first_same agree (marked after) d.first in
       record {
         numbered = inr (s, inr ((marked after, f.valid), refl));
         kept = λ lt. absurd (omega (arith, lt));
         found = λ z. record {
-          is-first = f;
+          is_first = f;
           cells = λ a b ar br. is a b ar br (marked after a b) refl;
           size = d.ticks.size ∙ sym size;
           beyond = λ k h. past k h after d.ticks.size ∙ sym (past k h before size);
@@ -78,32 +78,32 @@ module _ {first second cuts veil : List ℕ} {n : ℕ} (read : Read first second
           zero (no h) = omega arith
           zero (yes h) = absurd (subst T e (ticks_marked a b d.ticks ar br (λ k. omega arith)))
 
-pub searches-not : {n : ℕ} {first second before : List ℕ} → ¬ Served n first second before →
+pub searches_not : {n : ℕ} {first second before : List ℕ} → ¬ Served n first second before →
     Searches n first second before before Unserved
-searches-not h = record { numbered = inl (h, refl); kept = λ lt. refl; found = λ z. absurd (omega (arith, z)) }
+searches_not h = record { numbered = inl (h, refl); kept = λ lt. refl; found = λ z. absurd (omega (arith, z)) }
 
 -- ---- the first part of the array is searched into, the rest stays
-pub part-size : (before : List ℕ) → all_cells ≤ length before → length (take all_cells before) ≡ all_cells
-part-size before h = length-take-le all_cells before h
+pub part_size : (before : List ℕ) → all_cells ≤ length before → length (take all_cells before) ≡ all_cells
+part_size before h = length-take-le all_cells before h
 
-pub served-part : {n : ℕ} {first second before : List ℕ} → Served n first second before →
+pub served_part : {n : ℕ} {first second before : List ℕ} → Served n first second before →
     Served n first second (take all_cells before) × (length (take all_cells before) ≡ all_cells)
-served-part {before} s =
-    let e = part-size before s.pairs_cells in (
+served_part {before} s =
+    let e = part_size before s.pairs_cells in (
       record {
         fewest = s.fewest;
         most = s.most;
-        first-cells = s.first_cells;
-        second-cells = s.second_cells;
-        pairs-cells = omega (arith, e);
+        first_cells = s.first_cells;
+        second_cells = s.second_cells;
+        pairs_cells = omega (arith, e);
       },
       e,
     )
 
-pub searches-part : {n : ℕ} {first second before part : List ℕ} {r : Searched} → Served n first second before →
+pub searches_part : {n : ℕ} {first second before part : List ℕ} {r : Searched} → Served n first second before →
     length part ≡ all_cells → Searches n first second (take all_cells before) part r →
     Searches n first second before (part ++ drop all_cells before) r
-searches-part {n} {first} {second} {before} {part} {r} s size p = record {
+searches_part {n} {first} {second} {before} {part} {r} s size p = record {
   numbered = lines p.numbered;
   kept = λ lt. ap (λ (l : List ℕ). l ++ drop all_cells before) (p.kept lt) ∙ take-append-drop all_cells before;
   found = λ z. marks (p.found z);
@@ -111,7 +111,7 @@ searches-part {n} {first} {second} {before} {part} {r} s size p = record {
   where
     lines : FirstFailed (asked n first second (take all_cells before)) (number r) →
         FirstFailed (asked n first second before) (number r)
-    lines (inl f) = absurd (f.0 (served-part s).0)
+    lines (inl f) = absurd (f.0 (served_part s).0)
     lines (inr f) = inr (s, f.1)
 
     front : (k : ℕ) → k < all_cells → get_or (part ++ drop all_cells before) k 0 ≡ get_or part k 0
@@ -134,7 +134,7 @@ searches-part {n} {first} {second} {before} {part} {r} s size p = record {
     marks : Marks n first second (take all_cells before) part →
         Marks n first second before (part ++ drop all_cells before)
     marks m = record {
-      is-first = subst (λ (C : Pairs). FirstBy (plan first second) n C) (sym same) m.is_first;
+      is_first = subst (λ (C : Pairs). FirstBy (plan first second) n C) (sym same) m.is_first;
       cells = λ a b ar br.
           front (place a b) (omega arith) ∙ m.cells a b ar br ∙ ap (λ (C : Pairs). bit (C a b)) (sym same);
       size = length_front before part all_cells m.size;

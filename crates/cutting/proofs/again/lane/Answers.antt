@@ -1,12 +1,9 @@
 -- `again::lane`: the lane is right from b on.
-use mathlib.Core.Path.{◌≡◌, refl}
-use Prim.Native.Nat.{◌≤◌}
-use lib.ListN.{length, length-set}
+use mathlib.Core.Path.{refl}
+use lib.ListN.{length-set}
 use native.Mathlib.Omega.{arith}
-use borrow.Author.Rules.{rules}
-use Rattle.limits.specs.Limits.{row, all_cells}
 use Rattle.cutting.proofs.Rows.{blank}
-use Rattle.cutting.proofs.Relaid.{Laning, laning_none, laning_more, laning_at, laning_end}
+use Rattle.cutting.proofs.Relaid.{laning_none, laning_more, laning_at, laning_end}
 use Rattle.cutting.proofs.again.lane.Goals as goal
 
 pub cell-end-requires : goal.cell-end-requires
@@ -16,15 +13,14 @@ pub put-requires : goal.put-requires
 put-requires c = (omega arith, omega arith, omega arith)
 
 pub loop-b-init : goal.loop-b-init
-loop-b-init c =
-    (
-      omega arith,
-      omega arith,
-      omega (arith, c.put.auto.0, c.requires.2),
-      simp length-set refl,
-      laning_none c.args.col.now (omega arith) c.requires.4 c.requires.2 refl blank
-          c.cell-end.ensures c.put.ensures,
-    )
+loop-b-init c = (
+  omega arith,
+  omega arith,
+  omega (arith, c.put.auto.t, c.requires.2),
+  simp length-set refl,
+  laning_none c.args.col.now (omega arith) c.requires.4 c.requires.2 refl blank
+      c.cell-end.ensures c.put.ensures,
+)
 
 pub reach-requires : goal.reach-requires
 reach-requires c =
@@ -45,7 +41,7 @@ loop-b-preserved c =
     let pre = c.requires in (
       omega arith,
       omega arith,
-      omega (arith, c.put-in-loop-b.auto.0, c.loop-b.invariant.2),
+      omega (arith, c.put-in-loop-b.auto.t, c.loop-b.invariant.2),
       simp length-set c.loop-b.invariant.3,
       laning_more pre.0 (omega arith) (omega arith) pre.4 c.loop-b.invariant.2 c.loop-b.invariant.3
           (laning_at (omega arith) c.loop-b.invariant.4) c.reach.ensures

@@ -1,16 +1,15 @@
 -- `again::lane`: the lane is right from b on.
-use mathlib.Core.Path.{◌≡◌, refl}
+use mathlib.Core.Path.{◌≡◌}
 use Prim.Native.Nat.{◌≤◌}
-use lib.ListN.{length, length-set}
-use native.Mathlib.Omega.{arith}
-use borrow.Author.Rules.{rules}
+use lib.ListN.{length}
 use Rattle.limits.specs.Limits.{row, all_cells}
-use Rattle.cutting.proofs.Rows.{blank}
-use Rattle.cutting.proofs.Relaid.{Laning, laning_none, laning_more, laning_at, laning_end}
+use Rattle.cutting.proofs.Relaid.{Laning}
 use Rattle.cutting.proofs.again.lane.Given as goal
 
 abbrev pub invariant-loop-b : goal.invariant-loop-b
-invariant-loop-b l = (l.x ≤ l.b) × (l.b ≤ l.j) × (length l.col ≡ all_cells) × (length l.g ≡ row) × Laning l.veil l.val l.initial.col l.col l.g l.x l.j l.b
+invariant-loop-b l =
+    (l.x ≤ l.b) × (l.b ≤ l.j) × (length l.col ≡ all_cells) × (length l.g ≡ row) ×
+    Laning l.veil l.val l.initial.col l.col l.g l.x l.j l.b
 
 abbrev pub decreases-loop-b : goal.decreases-loop-b
 decreases-loop-b l = l.b

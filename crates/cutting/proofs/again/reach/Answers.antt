@@ -1,9 +1,6 @@
 -- `again::reach`: the least of the steps to corners below c.
-use Prim.Native.Nat.{◌≤◌, ◌-◌}
 use native.Mathlib.Omega.{arith}
-use borrow.Author.Rules.{rules}
-use Rattle.limits.specs.Limits.{row}
-use Rattle.cutting.proofs.Relaid.{Reaching, reaching_none, reaching_more, reaching_end}
+use Rattle.cutting.proofs.Relaid.{reaching_none, reaching_more, reaching_end}
 use Rattle.cutting.proofs.again.reach.Goals as goal
 
 pub loop-c-init : goal.loop-c-init

@@ -1,9 +1,7 @@
 -- `again::reach`: the least of the steps to corners below c.
 use Prim.Native.Nat.{◌≤◌, ◌-◌}
-use native.Mathlib.Omega.{arith}
-use borrow.Author.Rules.{rules}
 use Rattle.limits.specs.Limits.{row}
-use Rattle.cutting.proofs.Relaid.{Reaching, reaching_none, reaching_more, reaching_end}
+use Rattle.cutting.proofs.Relaid.{Reaching}
 use Rattle.cutting.proofs.again.reach.Given as goal
 
 abbrev pub invariant-loop-c : goal.invariant-loop-c

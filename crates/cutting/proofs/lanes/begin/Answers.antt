@@ -1,11 +1,6 @@
 -- `lanes::begin`: the lanes below x are the veil's.
-use mathlib.Core.Path.{◌≡◌}
-use Prim.Native.Nat.{◌≤◌, ◌-◌}
-use lib.ListN.{length}
 use native.Mathlib.Omega.{arith}
-use borrow.Author.Rules.{rules}
-use Rattle.limits.specs.Limits.{row, all_cells}
-use Rattle.cutting.proofs.Rows.{Begins, begins_none, begins_more, begins_end}
+use Rattle.cutting.proofs.Rows.{begins_none, begins_more, begins_end}
 use Rattle.cutting.proofs.lanes.begin.Goals as goal
 
 pub loop-x-init : goal.loop-x-init
@@ -15,7 +10,7 @@ pub loop-x-preserved : goal.loop-x-preserved
 loop-x-preserved c =
     let loop = c.loop-x in (
       omega arith,
-      omega (arith, c.put.auto.0, loop.invariant.1),
+      omega (arith, c.put.auto.t, loop.invariant.1),
       begins_more loop.invariant.2 loop.invariant.1 (omega arith) (omega arith) c.cell.ensures
           c.put.ensures,
     )

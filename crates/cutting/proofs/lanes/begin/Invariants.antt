@@ -2,10 +2,8 @@
 use mathlib.Core.Path.{◌≡◌}
 use Prim.Native.Nat.{◌≤◌, ◌-◌}
 use lib.ListN.{length}
-use native.Mathlib.Omega.{arith}
-use borrow.Author.Rules.{rules}
 use Rattle.limits.specs.Limits.{row, all_cells}
-use Rattle.cutting.proofs.Rows.{Begins, begins_none, begins_more, begins_end}
+use Rattle.cutting.proofs.Rows.{Begins}
 use Rattle.cutting.proofs.lanes.begin.Given as goal
 
 abbrev pub invariant-loop-x : goal.invariant-loop-x

@@ -1,11 +1,6 @@
 -- `lanes::finish`: the lanes below x are the row's.
-use mathlib.Core.Path.{◌≡◌}
-use Prim.Native.Nat.{◌≤◌, ◌-◌}
-use lib.ListN.{length}
 use native.Mathlib.Omega.{arith}
-use borrow.Author.Rules.{rules}
-use Rattle.limits.specs.Limits.{row, all_cells}
-use Rattle.cutting.proofs.Rows.{Finishes, finishes_none, finishes_more, finishes_end}
+use Rattle.cutting.proofs.Rows.{finishes_none, finishes_more, finishes_end}
 use Rattle.cutting.proofs.lanes.finish.Goals as goal
 
 pub loop-x-init : goal.loop-x-init
@@ -15,7 +10,7 @@ pub loop-x-preserved : goal.loop-x-preserved
 loop-x-preserved c =
     let pre = c.requires in (
       omega (arith, c.loop-x-test.true),
-      omega (arith, c.put.auto.0, c.loop-x.invariant.1),
+      omega (arith, c.put.auto.t, c.loop-x.invariant.1),
       finishes_more c.loop-x.invariant.2 c.loop-x.invariant.1 pre.3.0 pre.3.1
           c.loop-x-test.true
           c.cell.ensures c.sum.ensures c.low-whole.ensures

@@ -2,14 +2,13 @@
 use mathlib.Core.Path.{◌≡◌}
 use Prim.Native.Nat.{◌≤◌, ◌-◌}
 use lib.ListN.{length}
-use native.Mathlib.Omega.{arith}
-use borrow.Author.Rules.{rules}
 use Rattle.limits.specs.Limits.{row, all_cells}
-use Rattle.cutting.proofs.Rows.{Finishes, finishes_none, finishes_more, finishes_end}
+use Rattle.cutting.proofs.Rows.{Finishes}
 use Rattle.cutting.proofs.lanes.finish.Given as goal
 
 abbrev pub invariant-loop-x : goal.invariant-loop-x
-invariant-loop-x l = (l.x ≤ row) × (length l.col ≡ all_cells) × Finishes l.first l.veil l.initial.col l.col l.i l.j l.v l.x
+invariant-loop-x l =
+    (l.x ≤ row) × (length l.col ≡ all_cells) × Finishes l.first l.veil l.initial.col l.col l.i l.j l.v l.x
 
 abbrev pub decreases-loop-x : goal.decreases-loop-x
 decreases-loop-x l = row - l.x

@@ -1,11 +1,7 @@
 -- `lanes::lower`: the lanes below x are lowered.
-use mathlib.Core.Path.{◌≡◌}
-use Prim.Native.Nat.{◌≤◌, ◌-◌}
-use lib.ListN.{length, length-set}
+use lib.ListN.{length-set}
 use native.Mathlib.Omega.{arith}
-use borrow.Author.Rules.{rules}
-use Rattle.limits.specs.Limits.{row}
-use Rattle.cutting.proofs.Rows.{Lows, lows_none, lows_more, lows_end}
+use Rattle.cutting.proofs.Rows.{lows_none, lows_more, lows_end}
 use Rattle.cutting.proofs.lanes.lower.Goals as goal
 
 pub loop-x-init : goal.loop-x-init

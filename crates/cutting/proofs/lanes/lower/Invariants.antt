@@ -1,11 +1,9 @@
 -- `lanes::lower`: the lanes below x are lowered.
 use mathlib.Core.Path.{◌≡◌}
 use Prim.Native.Nat.{◌≤◌, ◌-◌}
-use lib.ListN.{length, length-set}
-use native.Mathlib.Omega.{arith}
-use borrow.Author.Rules.{rules}
+use lib.ListN.{length}
 use Rattle.limits.specs.Limits.{row}
-use Rattle.cutting.proofs.Rows.{Lows, lows_none, lows_more, lows_end}
+use Rattle.cutting.proofs.Rows.{Lows}
 use Rattle.cutting.proofs.lanes.lower.Given as goal
 
 abbrev pub invariant-loop-x : goal.invariant-loop-x

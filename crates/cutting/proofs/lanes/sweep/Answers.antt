@@ -1,11 +1,5 @@
 -- `lanes::sweep`: the corners before b are tried.
-use mathlib.Core.Path.{◌≡◌}
-use Prim.Native.Nat.{◌≤◌, ◌<◌, ◌-◌}
-use lib.ListN.{length}
 use native.Mathlib.Omega.{arith}
-use borrow.Author.Rules.{rules}
-use Rattle.limits.specs.Limits.{row}
-use Rattle.cutting.specs.Rows.{Swept}
 use Rattle.cutting.proofs.Rows.{swept_none, swept_more, swept_end}
 use Rattle.cutting.proofs.lanes.sweep.Goals as goal
 

@@ -2,11 +2,8 @@
 use mathlib.Core.Path.{◌≡◌}
 use Prim.Native.Nat.{◌≤◌, ◌<◌, ◌-◌}
 use lib.ListN.{length}
-use native.Mathlib.Omega.{arith}
-use borrow.Author.Rules.{rules}
 use Rattle.limits.specs.Limits.{row}
 use Rattle.cutting.specs.Rows.{Swept}
-use Rattle.cutting.proofs.Rows.{swept_none, swept_more, swept_end}
 use Rattle.cutting.proofs.lanes.sweep.Given as goal
 
 abbrev pub invariant-loop-b : goal.invariant-loop-b

@@ -1,7 +1,6 @@
 -- `lines::closes`: one law for each return.
 use mathlib.Core.Path.{sym, ◌∙◌}
 use native.Mathlib.Omega.{arith}
-use borrow.Author.Rules.{rules}
 use Rattle.cutting.proofs.Values.{closes_cut, closes_inner, closes_last}
 use Rattle.cutting.proofs.lines.closes.Goals as goal
 

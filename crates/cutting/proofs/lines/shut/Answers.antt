@@ -1,6 +1,5 @@
 -- `lines::shut`: the sums as they are added up.
 use native.Mathlib.Omega.{arith}
-use borrow.Author.Rules.{rules}
 use Rattle.cutting.proofs.Values.{shut_is}
 use Rattle.cutting.proofs.lines.shut.Goals as goal
 

@@ -1,11 +1,8 @@
 -- `lines::through`: the least of the centres before x.
 use Prim.Native.Nat.{◌+◌, ◌≤◌, ◌<◌, ◌-◌}
-use native.Mathlib.Omega.{arith}
-use borrow.Author.Rules.{rules}
 use Rattle.rules.specs.Cells.{cell}
 use Rattle.rules.specs.Columns.{Least}
 use Rattle.cutting.specs.Rows.{none}
-use Rattle.cutting.proofs.Rows.{least_none, least_more, least_to}
 use Rattle.cutting.proofs.lines.through.Given as goal
 
 abbrev pub invariant-loop-x : goal.invariant-loop-x

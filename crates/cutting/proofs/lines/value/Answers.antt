@@ -1,5 +1,4 @@
 -- `lines::value`: one law for each return.
-use borrow.Author.Rules.{rules}
 use Rattle.cutting.specs.Tells.{if_yes, if_no}
 use Rattle.cutting.proofs.Values.{valued_side, valued_shut, valued_none}
 use Rattle.cutting.proofs.lines.value.Goals as goal

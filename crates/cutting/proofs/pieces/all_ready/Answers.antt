@@ -1,10 +1,5 @@
 -- `pieces::all_ready`: the lanes of the centres below x that serve are there.
-use mathlib.Core.Path.{◌≡◌}
-use Prim.Native.Nat.{◌+◌, ◌-◌, ◌≤◌}
-use lib.ListN.{length}
 use native.Mathlib.Omega.{arith}
-use Rattle.limits.specs.Limits.{all_cells}
-use Rattle.cutting.specs.Tracing.{Lanes}
 use Rattle.cutting.proofs.Relaid.{lanes_at}
 use Rattle.cutting.proofs.pieces.all_ready.Goals as goal
 
@@ -18,18 +13,21 @@ overflow_add-j c = omega (arith, c.requires.routes.0.last)
 
 pub ready-requires : goal.ready-requires
 ready-requires c =
-    let pre = c.requires in record { routes = (
+    let pre = c.requires in record {
+      routes = (
         record {
-          val-size = pre.routes.0.val_size;
-          left-size = pre.routes.0.left_size;
-          col-size = c.loop-x.invariant.2;
+          val_size = pre.routes.0.val_size;
+          left_size = pre.routes.0.left_size;
+          col_size = c.loop-x.invariant.2;
           last = pre.routes.0.last;
         },
         pre.routes.1,
         pre.routes.2,
         omega arith,
         omega arith,
-      ); lanes = c.loop-x.invariant.3 }
+      );
+      lanes = c.loop-x.invariant.3;
+    }
 
 pub overflow_add-x : goal.overflow_add-x
 overflow_add-x c =
@@ -41,7 +39,7 @@ loop-x-preserved c =
     let loop = c.loop-x in (
       omega arith,
       omega arith,
-      omega (arith, c.ready.auto.1.1.1.1.0, loop.invariant.2),
+      omega (arith, c.ready.auto.col, loop.invariant.2),
       c.ready.ensures,
     )
 

@@ -2,14 +2,13 @@
 use mathlib.Core.Path.{◌≡◌}
 use Prim.Native.Nat.{◌+◌, ◌-◌, ◌≤◌}
 use lib.ListN.{length}
-use native.Mathlib.Omega.{arith}
 use Rattle.limits.specs.Limits.{all_cells}
 use Rattle.cutting.specs.Tracing.{Lanes}
-use Rattle.cutting.proofs.Relaid.{lanes_at}
 use Rattle.cutting.proofs.pieces.all_ready.Given as goal
 
 abbrev pub invariant-loop-x : goal.invariant-loop-x
-invariant-loop-x l = (l.i ≤ l.x) × (l.x ≤ l.j + 1) × (length l.col ≡ all_cells) × Lanes l.veil l.val l.left l.right l.col l.i l.j l.x
+invariant-loop-x l =
+    (l.i ≤ l.x) × (l.x ≤ l.j + 1) × (length l.col ≡ all_cells) × Lanes l.veil l.val l.left l.right l.col l.i l.j l.x
 
 abbrev pub decreases-loop-x : goal.decreases-loop-x
 decreases-loop-x l = l.j + 1 - l.x

@@ -1,6 +1,5 @@
 -- `pieces::centre`: the lowest takes every corner, or the pick is made of all.
 use native.Mathlib.Omega.{arith}
-use borrow.Author.Rules.{rules}
 use Rattle.cutting.proofs.Traced.{picked_as, lowest_picked}
 use Rattle.cutting.proofs.Relaid.{lanes_lowest}
 use Rattle.cutting.proofs.pieces.centre.Goals as goal
@@ -13,18 +12,21 @@ returns-then-every c =
 
 pub all_ready-requires : goal.all_ready-requires
 all_ready-requires c =
-    let pre = c.requires in record { routes = (
+    let pre = c.requires in record {
+      routes = (
         record {
-          val-size = pre.0.val_size;
-          left-size = pre.0.left_size;
-          col-size = omega (arith, pre.0.col_size, c.lane.auto.1.1.0);
+          val_size = pre.0.val_size;
+          left_size = pre.0.left_size;
+          col_size = omega (arith, pre.0.col_size, c.lane.auto.col);
           last = pre.0.last;
         },
         pre.1,
         pre.2,
         omega (arith, c.lowest-x.ensures.from),
         omega (arith, c.lowest-x.ensures.to),
-      ); lanes = lanes_lowest c.lowest-x.ensures c.lane.ensures }
+      );
+      lanes = lanes_lowest c.lowest-x.ensures c.lane.ensures;
+    }
 
 pub returns : goal.returns
 returns c =

@@ -1,17 +1,15 @@
 -- `pieces::choose`: a return for each case of `better`.
 use mathlib.Core.Path.{sym, ◌∙◌}
-use borrow.Author.Rules.{rules}
-use borrow.Author.Tests.{not-true, not-false}
 use Rattle.cutting.proofs.Corners.{better_none, better_less, better_not, better_unfit}
 use Rattle.cutting.proofs.pieces.choose.Goals as goal
 
 pub returns-then-not-serves : goal.returns-then-not-serves
-returns-then-not-serves c = better_unfit _ _ _ _ _ _ _ _ (sym c.serves.ensures ∙ not-true _ c.if-not-serves.true)
+returns-then-not-serves c = better_unfit _ _ _ _ _ _ _ _ (sym c.serves.ensures ∙ c.if-not-serves.true)
 
 pub returns-then-best-eq-ROW : goal.returns-then-best-eq-ROW
 returns-then-best-eq-ROW c =
     better_none _ _ _ _ _ _ _ _
-    (sym c.serves.ensures ∙ not-false _ c.if-not-serves.false) c.if-best-eq-ROW.true
+    (sym c.serves.ensures ∙ c.if-not-serves.false) c.if-best-eq-ROW.true
 
 pub earlier-requires : goal.earlier-requires
 earlier-requires c =
@@ -20,7 +18,7 @@ earlier-requires c =
 
 pub returns-then-earlier : goal.returns-then-earlier
 returns-then-earlier c =
-    better_less _ _ _ _ _ _ _ _ (sym c.serves.ensures ∙ not-false _ c.if-not-serves.false)
+    better_less _ _ _ _ _ _ _ _ (sym c.serves.ensures ∙ c.if-not-serves.false)
     (sym c.earlier.ensures ∙ c.if-earlier.true)
 
 pub returns : goal.returns

@@ -1,12 +1,8 @@
 -- `pieces::earlier`: which comes first is decided by what is left from c on.
-use mathlib.Core.Path.{◌≡◌, refl}
+use mathlib.Core.Path.{◌≡◌}
 use Prim.Native.Nat.{◌≤◌, ◌-◌}
-use native.Mathlib.Omega.{arith}
-use borrow.Author.Rules.{rules}
-use Rattle.rules.specs.Follow.{rest_end}
 use Rattle.rules.specs.Choice.{less}
 use Rattle.cutting.specs.Tracing.{rest_in}
-use Rattle.cutting.proofs.Corners.{less_on, less_at, less_end}
 use Rattle.cutting.proofs.pieces.earlier.Given as goal
 
 abbrev pub invariant-loop-c : goal.invariant-loop-c

@@ -1,10 +1,7 @@
 -- `pieces::every`: every corner before c is taken.
-use mathlib.Core.Path.{◌≡◌, sym}
-use Prim.Native.Nat.{ℕ, suc, ◌≤◌, ◌<◌, ◌-◌}
+use mathlib.Core.Path.{sym}
 use native.Mathlib.Omega.{arith}
-use borrow.Author.Rules.{rules}
 use borrow.Author.Count.{below_more}
-use Rattle.cutting.specs.Tracing.{next_in}
 use Rattle.cutting.proofs.Values.{clash}
 use Rattle.cutting.proofs.pieces.every.Goals as goal
 

@@ -1,11 +1,7 @@
 -- `pieces::lowest`: no centre before x fits.
-use mathlib.Core.Path.{◌≡◌, sym, ◌∙◌}
-use mathlib.Core.Bool.{false}
-use Prim.Native.Nat.{ℕ, ◌≤◌, ◌<◌, ◌-◌}
+use mathlib.Core.Path.{sym, ◌∙◌}
 use native.Mathlib.Omega.{arith}
-use borrow.Author.Rules.{rules}
 use borrow.Author.Count.{below_more}
-use Rattle.cutting.specs.Tracing.{fits_in}
 use Rattle.cutting.proofs.pieces.lowest.Goals as goal
 
 pub loop-x-init : goal.loop-x-init

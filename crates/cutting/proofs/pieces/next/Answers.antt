@@ -1,7 +1,5 @@
 -- `pieces::next`: what is found on the road to x, or to j.
 use native.Mathlib.Omega.{arith}
-use borrow.Author.Rules.{rules}
-use borrow.Author.Rules.{rules}
 use Rattle.cutting.proofs.Corners.{found_left, found_right}
 use Rattle.cutting.proofs.pieces.next.Goals as goal
 

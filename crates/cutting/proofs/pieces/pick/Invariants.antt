@@ -1,16 +1,16 @@
 -- `pieces::pick`: best is the pick of the centres below x.
 use mathlib.Core.Path.{◌≡◌}
 use Prim.Native.Nat.{◌≤◌, ◌-◌, ◌+◌}
-use native.Mathlib.Omega.{arith}
 use Rattle.rules.specs.Cutting.{one}
 use Rattle.rules.specs.Choice.{pick_from}
 use Rattle.rules.specs.Cells.{cell}
 use Rattle.cutting.specs.Rows.{none}
-use Rattle.cutting.proofs.Corners.{pick_range, pick_none, pick_more, pick_end}
 use Rattle.cutting.proofs.pieces.pick.Given as goal
 
 abbrev pub invariant-loop-x : goal.invariant-loop-x
-invariant-loop-x l = (l.i ≤ l.x) × (l.x ≤ l.j + 1) × (l.best ≡ pick_from none one (cell l.val) (cell l.left) (cell l.col) (cell l.right l.j) l.i l.j (l.x - l.i))
+invariant-loop-x l =
+    (l.i ≤ l.x) × (l.x ≤ l.j + 1) ×
+    (l.best ≡ pick_from none one (cell l.val) (cell l.left) (cell l.col) (cell l.right l.j) l.i l.j (l.x - l.i))
 
 abbrev pub decreases-loop-x : goal.decreases-loop-x
 decreases-loop-x l = l.j + 1 - l.x

@@ -1,7 +1,6 @@
 -- `pieces::ready`: the lane of x is not needed, or is filled.
 use mathlib.Core.Path.{sym, ◌∙◌}
 use native.Mathlib.Omega.{arith}
-use borrow.Author.Rules.{rules}
 use Rattle.cutting.proofs.Relaid.{lanes_not, lanes_more}
 use Rattle.cutting.proofs.pieces.ready.Goals as goal
 

@@ -1,12 +1,6 @@
 -- `pieces::seek`: no corner before b costs what is looked for.
-use mathlib.Core.Path.{◌≡◌}
-use Prim.Native.Nat.{ℕ, ◌≤◌, ◌<◌, ◌-◌}
 use native.Mathlib.Omega.{arith}
 use borrow.Author.Count.{below_more}
-use borrow.Author.Rules.{rules}
-use Rattle.rules.specs.Columns.{costs}
-use Rattle.rules.specs.Cells.{cell}
-use Rattle.cutting.specs.Rows.{none}
 use Rattle.cutting.proofs.pieces.seek.Goals as goal
 
 pub loop-b-init : goal.loop-b-init
@@ -31,21 +25,20 @@ returns-then-sum-target c =
     }
 
 pub loop-b-preserved : goal.loop-b-preserved
-loop-b-preserved c =
-    (
-      omega arith,
-      omega arith,
-      below_more _ _ c.loop-b.invariant.2
-          (λ h e.
-          c.if-sum-target.false
-          (omega (
-            arith,
-            c.sum.ensures,
-            c.cell-target.ensures,
-            c.cell.ensures,
-            c.cell-in-loop-b.ensures,
-          ))),
-    )
+loop-b-preserved c = (
+  omega arith,
+  omega arith,
+  below_more _ _ c.loop-b.invariant.2
+      (λ h e.
+      c.if-sum-target.false
+      (omega (
+        arith,
+        c.sum.ensures,
+        c.cell-target.ensures,
+        c.cell.ensures,
+        c.cell-in-loop-b.ensures,
+      ))),
+)
 
 pub returns : goal.returns
 returns c =

@@ -1,5 +1,4 @@
 -- `pieces::serves`: the sum as it is added up.
-use borrow.Author.Rules.{rules}
 use Rattle.cutting.proofs.Corners.{fits_is}
 use Rattle.cutting.proofs.pieces.serves.Goals as goal
 

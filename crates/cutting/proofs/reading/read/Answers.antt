@@ -1,10 +1,5 @@
 -- `reading::read`: the corners below y have been read.
-use mathlib.Core.Path.{◌≡◌}
-use Prim.Native.Nat.{◌≤◌, ◌-◌}
-use lib.ListN.{length}
 use native.Mathlib.Omega.{arith}
-use Rattle.limits.specs.Limits.{all_cells}
-use Rattle.cutting.specs.Rows.{Read}
 use Rattle.cutting.proofs.Readings.{read_none, read_at}
 use Rattle.cutting.proofs.reading.read.Goals as goal
 
@@ -16,16 +11,23 @@ loop-y-init c =
 pub read_corner-requires : goal.read_corner-requires
 read_corner-requires c =
     let pre = c.requires in
-    record { all_cells_in_bounds = (pre.all_cells_in_bounds.0, pre.all_cells_in_bounds.1, omega arith, pre.all_cells_in_bounds.2); read = c.loop-y.invariant.3 }
+    record {
+      all_cells_in_bounds = (
+        pre.all_cells_in_bounds.0,
+        pre.all_cells_in_bounds.1,
+        omega arith,
+        pre.all_cells_in_bounds.2,
+      );
+      read = c.loop-y.invariant.3;
+    }
 
 pub loop-y-preserved : goal.loop-y-preserved
-loop-y-preserved c =
-    (
-      omega arith,
-      c.read_corner.ensures.cuts_size,
-      c.read_corner.ensures.veils.size,
-      c.read_corner.ensures,
-    )
+loop-y-preserved c = (
+  omega arith,
+  c.read_corner.ensures.cuts_size,
+  c.read_corner.ensures.veils.size,
+  c.read_corner.ensures,
+)
 
 pub shape_of-cuts : goal.shape_of-cuts
 shape_of-cuts c = omega (arith, c.requires.cuts_len.0)

@@ -2,14 +2,14 @@
 use mathlib.Core.Path.{◌≡◌}
 use Prim.Native.Nat.{◌≤◌, ◌-◌}
 use lib.ListN.{length}
-use native.Mathlib.Omega.{arith}
 use Rattle.limits.specs.Limits.{all_cells}
 use Rattle.cutting.specs.Rows.{Read}
-use Rattle.cutting.proofs.Readings.{read_none, read_at}
 use Rattle.cutting.proofs.reading.read.Given as goal
 
 abbrev pub invariant-loop-y : goal.invariant-loop-y
-invariant-loop-y l = (l.y ≤ l.n) × (length l.cuts ≡ all_cells) × (length l.veil ≡ all_cells) × Read l.first l.second l.cuts l.veil l.n l.y
+invariant-loop-y l =
+    (l.y ≤ l.n) × (length l.cuts ≡ all_cells) × (length l.veil ≡ all_cells) ×
+    Read l.first l.second l.cuts l.veil l.n l.y
 
 abbrev pub decreases-loop-y : goal.decreases-loop-y
 decreases-loop-y l = l.n - l.y

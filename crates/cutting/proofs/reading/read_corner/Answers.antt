@@ -1,12 +1,8 @@
 -- `reading::read_corner`: the corners below x have been read with y.
-use mathlib.Core.Path.{◌≡◌, ap₂, ◌∙◌}
-use Prim.Native.Nat.{◌≤◌, ◌-◌}
-use lib.ListN.{length}
+use mathlib.Core.Path.{ap₂, ◌∙◌}
 use native.Mathlib.Omega.{arith}
-use borrow.Author.Rules.{rules}
-use Rattle.limits.specs.Limits.{all_cells}
 use Rattle.cutting.specs.Rows.{cut_by, veil_by}
-use Rattle.cutting.proofs.Readings.{Reading, reading_none, reading_more, reading_end}
+use Rattle.cutting.proofs.Readings.{reading_none, reading_more, reading_end}
 use Rattle.cutting.proofs.reading.read_corner.Goals as goal
 
 pub loop-x-init : goal.loop-x-init
@@ -20,8 +16,8 @@ loop-x-preserved c =
     let a = c.cell-a.ensures in
     let b = c.cell-b.ensures in (
       omega (arith, c.loop-x-test.true),
-      omega (arith, c.put.auto.0, c.loop-x.invariant.1),
-      omega (arith, c.put-in-loop-x.auto.0, c.loop-x.invariant.2),
+      omega (arith, c.put.auto.t, c.loop-x.invariant.1),
+      omega (arith, c.put-in-loop-x.auto.t, c.loop-x.invariant.2),
       reading_more pre.all_cells_in_bounds.3 pre.all_cells_in_bounds.2 c.loop-x-test.true c.loop-x.invariant.3
           (c.mark.ensures ∙ ap₂ cut_by a b) (c.shade.ensures ∙ ap₂ veil_by a b)
           c.put.ensures c.put-in-loop-x.ensures,

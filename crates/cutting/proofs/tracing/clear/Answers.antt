@@ -1,10 +1,6 @@
 -- `tracing::clear`: the cells below k are 0.
-use mathlib.Core.Path.{◌≡◌}
-use Prim.Native.Nat.{◌≤◌, ◌-◌}
-use lib.ListN.{length, length-set}
+use lib.ListN.{length-set}
 use native.Mathlib.Omega.{arith}
-use Rattle.limits.specs.Limits.{all_cells}
-use Rattle.cutting.specs.Tracing.{Cleared}
 use Rattle.cutting.proofs.Marking.{cleared_none, cleared_more, cleared_at}
 use Rattle.cutting.proofs.tracing.clear.Goals as goal
 

@@ -1,11 +1,9 @@
 -- `tracing::clear`: the cells below k are 0.
 use mathlib.Core.Path.{◌≡◌}
 use Prim.Native.Nat.{◌≤◌, ◌-◌}
-use lib.ListN.{length, length-set}
-use native.Mathlib.Omega.{arith}
+use lib.ListN.{length}
 use Rattle.limits.specs.Limits.{all_cells}
 use Rattle.cutting.specs.Tracing.{Cleared}
-use Rattle.cutting.proofs.Marking.{cleared_none, cleared_more, cleared_at}
 use Rattle.cutting.proofs.tracing.clear.Given as goal
 
 abbrev pub invariant-loop-k : goal.invariant-loop-k

@@ -1,9 +1,7 @@
 -- `tracing::mark`: the lines before c are in the set.
-use Prim.Native.Nat.{◌≤◌, ◌-◌}
 use native.Mathlib.Omega.{arith}
 use Rattle.rules.specs.Follow.{rest_end}
-use Rattle.cutting.specs.Tracing.{rest_in}
-use Rattle.cutting.proofs.Marking.{Marking, marking_none, marking_more, marking_end}
+use Rattle.cutting.proofs.Marking.{marking_none, marking_more, marking_end}
 use Rattle.cutting.proofs.tracing.mark.Goals as goal
 
 pub loop-c-init : goal.loop-c-init

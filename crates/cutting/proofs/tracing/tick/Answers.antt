@@ -1,6 +1,5 @@
 -- `tracing::tick`: a side is left out.
 use native.Mathlib.Omega.{arith}
-use borrow.Author.Rules.{rules}
 use Rattle.cutting.proofs.Marking.{ticked_none, ticked_set}
 use Rattle.cutting.proofs.tracing.tick.Goals as goal
 

@@ -10,7 +10,10 @@ start-requires c =
 
 pub trace_all-requires : goal.trace_all-requires
 trace_all-requires c =
-    let pre = c.requires in record { veil = (pre.veil.0, pre.veil.1, pre.solvable.1.small); traceable = (_, _, traceable pre.veil.0 pre.solvable.1 c.start.ensures) }
+    let pre = c.requires in record {
+      veil = (pre.veil.0, pre.veil.1, pre.solvable.1.small);
+      traceable = (_, _, traceable pre.veil.0 pre.solvable.1 c.start.ensures);
+    }
 
 pub overflow_sub-n : goal.overflow_sub-n
 overflow_sub-n c =
@@ -20,7 +23,7 @@ overflow_sub-n c =
 pub put-requires : goal.put-requires
 put-requires c =
     let pre = c.requires in (
-      omega (arith, pre.veil.2, c.start.auto.0, c.trace_all.auto.1.1.1.1.1.1.0),
+      omega (arith, pre.veil.2, c.start.auto.pairs, c.trace_all.auto.pairs),
       omega arith,
       omega (arith, pre.solvable.1.three, pre.solvable.1.small),
     )
@@ -29,9 +32,9 @@ pub shape_of-pairs : goal.shape_of-pairs
 shape_of-pairs c =
     omega (
       arith,
-      c.start.auto.0,
-      c.trace_all.auto.1.1.1.1.1.1.0,
-      c.put.auto.0,
+      c.start.auto.pairs,
+      c.trace_all.auto.pairs,
+      c.put.auto.t,
     )
 
 pub returns : goal.returns

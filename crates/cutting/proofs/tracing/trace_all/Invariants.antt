@@ -1,11 +1,9 @@
 -- `tracing::trace_all`: the ranges to a corner from j on have been met.
-use mathlib.Core.Path.{◌≡◌, refl}
+use mathlib.Core.Path.{◌≡◌}
 use Prim.Native.Nat.{◌≤◌}
 use lib.ListN.{length}
-use native.Mathlib.Omega.{arith}
 use Rattle.limits.specs.Limits.{row, all_cells}
 use Rattle.cutting.specs.Tracing.{Goes}
-use Rattle.cutting.proofs.Traced.{tracing_at}
 use Rattle.cutting.proofs.tracing.trace_all.Given as goal
 
 abbrev pub invariant-loop-j : goal.invariant-loop-j

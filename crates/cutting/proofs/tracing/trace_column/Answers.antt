@@ -1,10 +1,6 @@
 -- `tracing::trace_column`: the ranges to j from below i have been met.
-use mathlib.Core.Path.{◌≡◌, refl}
-use Prim.Native.Nat.{◌+◌, ◌-◌, ◌≤◌}
-use lib.ListN.{length}
+use mathlib.Core.Path.{refl}
 use native.Mathlib.Omega.{arith}
-use Rattle.limits.specs.Limits.{row, all_cells}
-use Rattle.cutting.specs.Tracing.{Goes}
 use Rattle.cutting.proofs.Traced.{tracing_open, tracing_close}
 use Rattle.cutting.proofs.tracing.trace_column.Goals as goal
 
@@ -14,14 +10,17 @@ loop-i-init c =
 
 pub visit-requires : goal.visit-requires
 visit-requires c =
-    let pre = c.requires in record { veil = (pre.veil.0, c.loop-i.invariant.1, omega arith, pre.veil.2); traceable = (_, _, c.loop-i.invariant.3 pre.traceable.0 pre.traceable.1 pre.traceable.2) }
+    let pre = c.requires in record {
+      veil = (pre.veil.0, c.loop-i.invariant.1, omega arith, pre.veil.2);
+      traceable = (_, _, c.loop-i.invariant.3 pre.traceable.0 pre.traceable.1 pre.traceable.2);
+    }
 
 pub loop-i-preserved : goal.loop-i-preserved
 loop-i-preserved c =
     let loop = c.loop-i in (
       omega arith,
-      omega (arith, loop.invariant.1, c.visit.auto.1.1.1.1.0),
-      omega (arith, c.visit.auto.1.1.1.1.1.1.1.0),
+      omega (arith, loop.invariant.1, c.visit.auto.col),
+      omega (arith, c.visit.auto.pairs),
       λ cuts n t. c.visit.ensures cuts n (loop.invariant.3 cuts n t),
     )
 

@@ -1,11 +1,9 @@
 -- `tracing::trace_column`: the ranges to j from below i have been met.
-use mathlib.Core.Path.{◌≡◌, refl}
+use mathlib.Core.Path.{◌≡◌}
 use Prim.Native.Nat.{◌+◌, ◌-◌, ◌≤◌}
 use lib.ListN.{length}
-use native.Mathlib.Omega.{arith}
 use Rattle.limits.specs.Limits.{row, all_cells}
 use Rattle.cutting.specs.Tracing.{Goes}
-use Rattle.cutting.proofs.Traced.{tracing_open, tracing_close}
 use Rattle.cutting.proofs.tracing.trace_column.Given as goal
 
 abbrev pub invariant-loop-i : goal.invariant-loop-i

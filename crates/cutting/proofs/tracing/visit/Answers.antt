@@ -1,13 +1,19 @@
 -- `tracing::visit`: the range is not in the set, or its lines come into it.
-use mathlib.Core.Path.{sym, ◌∙◌}
+use mathlib.Core.Path.{◌≡◌, sym, ◌∙◌}
+use Prim.Native.Nat.{ℕ, ◌<◌}
+use mathlib.Core.List.{List}
 use lib.Dec.{T}
 use native.Mathlib.Omega.{arith}
-use borrow.Author.Rules.{rules}
-use Rattle.rules.specs.Cells.{marked}
+use Rattle.limits.specs.Limits.{row}
+use Rattle.rules.specs.Cells.{cell, marked}
 use Rattle.cutting.specs.Tracing.{Ticks}
 use Rattle.cutting.proofs.Marking.{ticks_marked}
 use Rattle.cutting.proofs.Traced.{tracing_not, tracing_by}
 use Rattle.cutting.proofs.tracing.visit.Goals as goal
+
+-- the range is in the set
+in_set : {pairs : List ℕ} (i j : ℕ) → i < j → j < row → ¬ (cell pairs i j ≡ 0) → Ticks pairs → T (marked pairs i j)
+in_set i j p q h t = ticks_marked i j t (omega arith) q h
 
 pub cell-requires : goal.cell-requires
 cell-requires c =
@@ -21,9 +27,9 @@ pub centre-x-requires : goal.centre-x-requires
 centre-x-requires c =
     let pre = c.requires in (
       record {
-        val-size = pre.traceable.2.val_size;
-        left-size = pre.traceable.2.left_size;
-        col-size = pre.veil.1;
+        val_size = pre.traceable.2.val_size;
+        left_size = pre.traceable.2.left_size;
+        col_size = pre.veil.1;
         last = pre.veil.3;
       },
       pre.traceable.2.right_size,
@@ -31,33 +37,27 @@ centre-x-requires c =
       pre.veil.2,
     )
 
--- ---- where the range is in the set
-abbrev start : goal.Else-cell-eq0 → goal.Start
-start c = c
-
-in-set : (c : goal.Else-cell-eq0) → (let a = (start c).args in Ticks a.pairs.now → T (marked a.pairs.now a.i a.j))
-in-set c t =
-    let s = start c in
-    ticks_marked s.args.i s.args.j t (omega (arith, s.pre.0.2, s.pre.0.3)) s.pre.0.3
-    (λ e. c.if-cell-eq0.false (c.cell.ensures ∙ e))
-
 pub mark-requires : goal.mark-requires
 mark-requires c =
-    let pre = (start c).requires in
-    let t = pre.1.2 in (
+    let pre = c.requires in
+    let t = pre.traceable.2 in (
       record {
-        val-size = t.val_size;
-        left-size = t.left_size;
-        col-size = omega (arith, pre.0.1, c.centre-x.auto.1.1.1.1.0);
-        last = pre.0.3;
+        val_size = t.val_size;
+        left_size = t.left_size;
+        col_size = omega (arith, pre.veil.1, c.centre-x.auto.col);
+        last = pre.veil.3;
       },
-      (c.centre-x.ensures _ _ _ t (in-set c t.ticks)).0,
-      omega (arith, pre.0.2),
+      (c.centre-x.ensures _ _ _ t
+          (in_set c.args.i c.args.j pre.veil.2 pre.veil.3 (λ e. c.if-cell-eq0.false (c.cell.ensures ∙ e)) t.ticks)).0,
+      omega (arith, pre.veil.2),
       t.ticks,
     )
 
 pub returns : goal.returns
 returns c =
     λ cuts n t.
-    let h = in-set c t.ticks in
+    let pre = c.requires in
+    let h : T (marked c.args.pairs.now c.args.i c.args.j) =
+    in_set c.args.i c.args.j pre.veil.2 pre.veil.3 (λ e. c.if-cell-eq0.false (c.cell.ensures ∙ e)) t.ticks
+    in
     tracing_by t h (c.centre-x.ensures _ _ _ t h).1 c.mark.ensures
