@@ -11,15 +11,15 @@ loop-i-init c = (refl, refl, refl)
 pub returns-in-Pair : goal.returns-in-Pair
 returns-in-Pair c =
     feeding
-    (feeds_pair _ _ _ _ _ c.loop-i-test.true c.take.ensures
-    c.a-1.given.1
+    (feeds_pair _ _ _ _ _ c.loop-i-test.true c.in-Pair.ensures
+    refl
     ∙ c.loop-i.invariant.2)
 
 pub returns-in-Fault : goal.returns-in-Fault
 returns-in-Fault c =
     feeding
-    (feeds_fault _ _ _ _ _ c.loop-i-test.true c.take.ensures
-    c.enum_told-1.given.1
+    (feeds_fault _ _ _ _ _ c.loop-i-test.true c.in-Fault.ensures
+    refl
     ∙ c.loop-i.invariant.2)
 
 pub loop-i-preserved : goal.loop-i-preserved
@@ -27,8 +27,8 @@ loop-i-preserved c =
     (
       omega arith,
       omega arith,
-      feeds_on _ _ _ _ _ c.loop-i-test.true c.take.ensures
-          c.next-1.given.1 ∙ c.loop-i.invariant.2,
+      feeds_on _ _ _ _ _ c.loop-i-test.true c.in-On.ensures
+          refl ∙ c.loop-i.invariant.2,
     )
 
 pub returns : goal.returns

@@ -29,5 +29,5 @@ returns c =
     placed (answer_line a.pieces a.answer.now) a.out.now a.at (omega (arith, size)) (omega (arith, size))
     (line_laid 0xA0 a.pieces a.answer.now a.out.now a.at
     c.put.ensures
-    c.put-2.ensures c.put_all_lem.ensures.1
-    c.put_all_lem.ensures.0)
+    c.put-2.ensures c.put_all-end.ensures.out_after
+    c.put_all-end.ensures.value)
