@@ -1,7 +1,6 @@
 -- `feed`: what the rest of the chunk does to the reader stays what the whole of it did at first.
 use Rattle.frames.specs.Chunks.{feeding}
-use Rattle.std.proofs.Common.{◌≡◌, ◌-◌, length, drop, refl, ◌∙◌, arith, rules}
-use Rattle.frames.specs.Reader.{feeds}
+use Rattle.std.proofs.Common.{refl, ◌∙◌, arith}
 use Rattle.frames.proofs.Feeding.{feeds_end, feeds_on, feeds_pair, feeds_fault}
 use Rattle.frames.proofs.feed.Goals as goal
 
@@ -23,13 +22,12 @@ returns-in-Fault c =
     ∙ c.loop-i.invariant.2)
 
 pub loop-i-preserved : goal.loop-i-preserved
-loop-i-preserved c =
-    (
-      omega arith,
-      omega arith,
-      feeds_on _ _ _ _ _ c.loop-i-test.true c.in-On.ensures
-          refl ∙ c.loop-i.invariant.2,
-    )
+loop-i-preserved c = (
+  omega arith,
+  omega arith,
+  feeds_on _ _ _ _ _ c.loop-i-test.true c.in-On.ensures
+      refl ∙ c.loop-i.invariant.2,
+)
 
 pub returns : goal.returns
 returns c = feeding (feeds_end _ _ _ _ _ c.loop-i-test.false ∙ c.loop-i.invariant.2)

@@ -1,5 +1,5 @@
 -- `answer_line`: no room in three ways, and the line laid in four stores.
-use Rattle.std.proofs.Common.{arith, length-set, rules}
+use Rattle.std.proofs.Common.{arith, length-set}
 use Rattle.frames.specs.Frames.{answer_line}
 use Rattle.frames.proofs.Writing.{placed, refused, line_laid, length_answer}
 use Rattle.frames.proofs.answer.answer_line.Goals as goal
