@@ -1,8 +1,6 @@
 -- `feed`: what the rest of the chunk does to the reader stays what the whole of it did at first.
-use Rattle.frames.specs.Chunks.{feeding}
-use Rattle.std.proofs.Common.{◌≡◌, ◌-◌, length, drop, refl, ◌∙◌, arith, rules}
+use Rattle.std.proofs.Common.{◌≡◌, ◌-◌, length, drop}
 use Rattle.frames.specs.Reader.{feeds}
-use Rattle.frames.proofs.Feeding.{feeds_end, feeds_on, feeds_pair, feeds_fault}
 use Rattle.frames.proofs.feed.Given as goal
 
 abbrev pub invariant-loop-i : goal.invariant-loop-i

@@ -1,5 +1,4 @@
 -- `start`.
-use Rattle.std.proofs.Common.{rules}
 use Rattle.frames.proofs.start.Goals as goal
 
 pub returns : goal.returns

@@ -1,5 +1,5 @@
 -- `answer_line`: no room in three ways, and the line laid in four stores.
-use Rattle.std.proofs.Common.{arith, length-set, rules}
+use Rattle.std.proofs.Common.{arith, length-set}
 use Rattle.frames.specs.Frames.{answer_line}
 use Rattle.frames.proofs.Writing.{placed, refused, line_laid, length_answer}
 use Rattle.frames.proofs.answer.answer_line.Goals as goal
@@ -29,5 +29,5 @@ returns c =
     placed (answer_line a.pieces a.answer.now) a.out.now a.at (omega (arith, size)) (omega (arith, size))
     (line_laid 0xA0 a.pieces a.answer.now a.out.now a.at
     c.put.ensures
-    c.put-2.ensures c.put_all_lem.ensures.1
-    c.put_all_lem.ensures.0)
+    c.put-2.ensures c.put_all-end.ensures.out_after
+    c.put_all-end.ensures.value)

@@ -1,5 +1,5 @@
 -- `fault_line`: no room in two ways, and the line laid in two stores.
-use Rattle.std.proofs.Common.{refl, arith, rules}
+use Rattle.std.proofs.Common.{refl, arith}
 use Rattle.frames.specs.Frames.{fault_line}
 use Rattle.frames.proofs.Writing.{placed, refused, byte_laid}
 use Rattle.frames.proofs.answer.fault_line.Goals as goal

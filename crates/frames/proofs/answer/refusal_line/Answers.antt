@@ -1,5 +1,5 @@
 -- `refusal_line`: no room in two ways, and the line laid in three stores.
-use Rattle.std.proofs.Common.{[], refl, arith, length-set, rules}
+use Rattle.std.proofs.Common.{[], refl, arith, length-set}
 use Rattle.frames.specs.Frames.{refusal_line}
 use Rattle.frames.proofs.Writing.{placed, refused, line_laid}
 use Rattle.frames.proofs.answer.refusal_line.Goals as goal

@@ -1,5 +1,4 @@
 -- `digit_of`: below 10 and from 10 on.
-use Rattle.std.proofs.Common.{rules}
 use Rattle.frames.proofs.Writing.{low_digit, high_digit}
 use Rattle.frames.proofs.digits.digit_of.Goals as goal
 

@@ -1,5 +1,5 @@
 -- `put`: two stores.
-use Rattle.std.proofs.Common.{◌/◌, ◌%◌, rules}
+use Rattle.std.proofs.Common.{◌/◌, ◌%◌}
 use Rattle.frames.proofs.Writing.{put_two}
 use Rattle.frames.proofs.digits.put.Goals as goal
 

@@ -1,7 +1,5 @@
 -- `put_all`: after i bytes their digits stand in the buffer, two for each.
-use Rattle.std.proofs.Common.{◌≡◌, ◌+◌, ◌-◌, ◌*◌, ◌≤◌, length, take, refl, ◌∙◌, arith, take_all}
-use lib.Seq.{sets}
-use Rattle.frames.specs.Frames.{digits_of}
+use Rattle.std.proofs.Common.{◌≡◌, length, refl, ◌∙◌, arith, take_all}
 use Rattle.frames.proofs.Writing.{put_more}
 use Rattle.frames.proofs.digits.put_all.Goals as goal
 

@@ -1,8 +1,7 @@
 -- `put_all`: after i bytes their digits stand in the buffer, two for each.
-use Rattle.std.proofs.Common.{◌≡◌, ◌+◌, ◌-◌, ◌*◌, ◌≤◌, length, take, refl, ◌∙◌, arith, take_all}
+use Rattle.std.proofs.Common.{◌≡◌, ◌+◌, ◌-◌, ◌*◌, ◌≤◌, length, take}
 use lib.Seq.{sets}
 use Rattle.frames.specs.Frames.{digits_of}
-use Rattle.frames.proofs.Writing.{put_more}
 use Rattle.frames.proofs.digits.put_all.Given as goal
 
 abbrev pub invariant-loop-i : goal.invariant-loop-i

@@ -1,5 +1,5 @@
 -- `begin`: each return is one law of `Reading`.
-use Rattle.std.proofs.Common.{arith, rules}
+use Rattle.std.proofs.Common.{arith}
 use Rattle.frames.specs.Reading.{begins_more, begins_below, begins_many, begins_body}
 use Rattle.frames.proofs.frame.begin.Goals as goal
 

@@ -1,5 +1,4 @@
 -- `number`: the value as it is, or 2^24 less.
-use Rattle.std.proofs.Common.{rules}
 use Rattle.frames.proofs.Worth.{positive, less_fits, wrapped}
 use Rattle.frames.proofs.frame.number.Goals as goal
 

@@ -1,5 +1,5 @@
 -- `read`: each return is one law of `Reading`.
-use Rattle.std.proofs.Common.{◌∙◌, to_z-of_z, rules}
+use Rattle.std.proofs.Common.{◌∙◌, to_z-of_z, w32}
 use borrow.Author.Rules.{sfits_of}
 use Rattle.frames.specs.Reading.{reads_close, reads_head, reads_over, reads_digit, reads_full, reads_number}
 use Rattle.frames.proofs.frame.read.Goals as goal
@@ -38,4 +38,4 @@ returns c =
     c.if-d-ge-NO_DIGIT.false
     c.if-line.false c.if-at-line.false
     c.if-line-lt-NUMBER.false c.if-at-numbers.false
-    (to_z-of_z (sfits_of c.number.type-inv) ∙ c.number.ensures)
+    (to_z-of_z {w = w32} (sfits_of c.number.type_inv) ∙ c.number.ensures)
