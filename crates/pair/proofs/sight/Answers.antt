@@ -1,0 +1,28 @@
+-- `pair::sight` meets its contract: laws for each return.
+use native.Mathlib.Omega.{arith}
+use borrow.Author.Rules.{rules}
+use borrow.Author.Tests.{not-true, not-false}
+use Rattle.outline.specs.Tells.{if_yes, if_no}
+use Rattle.pair.specs.Pair.{Alike}
+use Rattle.pair.proofs.Laws.{not_alike, first_decides, second_decides}
+use Rattle.pair.proofs.Laws.{first_untold, first_told, second_untold, second_told}
+use Rattle.pair.proofs.sight.Goals as goal
+
+pub returns-then-not-alike : goal.returns-then-not-alike
+returns-then-not-alike c =
+    let n = if_no c.alike.ensures c.if-not-alike.true in
+    record { checks = not_alike n; first_told = first_untold n; second_told = second_untold (λ e. omega (arith, e)) }
+
+pub returns-then-failed-ne0 : goal.returns-then-failed-ne0
+returns-then-failed-ne0 c =
+    let alike : let s = c.args in Alike s.first.now s.second.now =
+        if_yes c.alike.ensures c.if-not-alike.false in
+    let a = alike in record { checks = first_decides a c.sight.result c.sight.ensures.judged _ c.number-failed.ensures
+          c.if-failed-ne0.true; first_told = first_told a c.sight.ensures; second_told = second_untold c.if-failed-ne0.true }
+
+pub returns : goal.returns
+returns c =
+    let alike : let s = c.args in Alike s.first.now s.second.now =
+        if_yes c.alike.ensures c.if-not-alike.false in
+    let a = alike in record { checks = second_decides a c.sight.result c.sight.ensures.judged _ _ c.number-failed.ensures
+          c.if-failed-ne0.false c.sight-2.result c.sight-2.ensures.judged c.number.ensures; first_told = first_told a c.sight.ensures; second_told = second_told c.number.ensures c.sight-2.ensures }
