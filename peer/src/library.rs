@@ -107,8 +107,8 @@ impl Library {
             let missing = || format!("{}: no {}", path.display(), name.to_string_lossy());
             (!found.is_null()).then_some(found).ok_or_else(missing)
         };
-        // The product has its calls in these forms (crates/desk/src/lib.rt and stages.rt,
-        // crates/marks/src/flat.rt, crates/checker/src/flat.rt).
+        // The product exports its calls in these forms (crates/desk_c, marks_c and checker_c, each
+        // in src/lib.rt).
         unsafe {
             Ok(Library {
                 answer: std::mem::transmute::<*mut c_void, Answer>(find(c"iravikkon_answer")?),

@@ -1,5 +1,4 @@
-// The call for C, and for what links as C does: each slice is a pointer and a length, and a flat struct comes by
-// value.
+// The call as C takes it: what comes back is a flat struct, by value.
 ghost use Rattle.std.specs.Prelude.{◌≡◌};
 ghost use Rattle.checker.specs.Checks.{which_number, says, says_at, verdict, ChecksList};
 
@@ -64,8 +63,8 @@ fn flatten(checked: Checked) -> Verdict
     }
 }
 
-#[unsafe(no_mangle)]
-pub extern "C" fn iravikkon_check(first: &[i32], second: &[i32], list: &[u8]) -> Verdict
+// By its name for C. Crate `checker_c` exports it, as a library of Rattle exports nothing.
+pub fn iravikkon_check(first: &[i32], second: &[i32], list: &[u8]) -> Verdict
     ensures { ChecksList first.now second.now list.now result }
 {
     flatten(check(first, second, list))

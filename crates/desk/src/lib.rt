@@ -67,10 +67,8 @@ pub fn answer(first: &[i32], second: &[i32], room: &mut [u8]) -> Outcome
     look(first, second, &mut sight1, &mut sight2, room)
 }
 
-// The same call for C, and for what links as C does: each slice is a pointer and a length, and the result comes by
-// value.
-#[unsafe(no_mangle)]
-pub extern "C" fn iravikkon_answer(first: &[i32], second: &[i32], room: &mut [u8]) -> Outcome
+// The same call by its name for C. Crate `desk_c` exports it, as a library of Rattle exports nothing.
+pub fn iravikkon_answer(first: &[i32], second: &[i32], room: &mut [u8]) -> Outcome
     ensures { Answers first.now second.now room.old (result_of result room.new) }
 {
     answer(first, second, room)

@@ -1,5 +1,4 @@
-// The call for C, and for what links as C does: each slice is a pointer and a length, and a flat struct comes by
-// value.
+// The call as C takes it: what comes back is a flat struct, by value.
 ghost use Rattle.std.specs.Prelude.{◌≡◌};
 ghost use Rattle.marks.specs.Carry.{mark};
 ghost use Rattle.marks.specs.Flat.{flat, CarriesFlat};
@@ -48,14 +47,8 @@ fn flatten(carried: Carried) -> Flat
     }
 }
 
-#[unsafe(no_mangle)]
-pub extern "C" fn iravikkon_carry(
-    first: &[i32],
-    second: &[i32],
-    x: i32,
-    y: i32,
-    room: &mut [u8],
-) -> Flat
+// By its name for C. Crate `marks_c` exports it, as a library of Rattle exports nothing.
+pub fn iravikkon_carry(first: &[i32], second: &[i32], x: i32, y: i32, room: &mut [u8]) -> Flat
     ensures { CarriesFlat first.now second.now (mark x y) room.old room.new result }
 {
     flatten(carry(first, second, x, y, room))

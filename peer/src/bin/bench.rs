@@ -1,7 +1,7 @@
 //! bench [--quick] [CHECKOUT [OTHER]]: tables of times per pair, stage by stage: the peer, its
 //! rival, the library of a checkout of the product and that of another one, turn by turn in one
 //! run. A checkout has its library in target/native (tools/library makes it) and its program in
-//! target/bin. A quick run has one turn: it shows that all of it runs, and no times.
+//! crates/iravikkon/out. A quick run has one turn: it shows that all of it runs, and no times.
 
 use peer::bench::measure::{measure, Libraries, Measured};
 use peer::bench::race::Turns;
@@ -148,13 +148,13 @@ fn print_checking(turns: Turns, product: &Library) -> Result<(), String> {
     Ok(())
 }
 
-/// The peer, and the checkouts' programs where they run without an emulator, on the big frames.
+/// The peer, and the checkouts' programs where they run, on the big frames.
 fn print_rates(turns: usize, folders: &[PathBuf]) -> Result<(), String> {
     let input = include_bytes!("../../../crates/test_wire/data/big.hex").repeat(BIG_TIMES);
     let mut names = vec!["the peer".to_string()];
     let mut runs: Vec<Run> = vec![Box::new(frames::run)];
     for folder in folders.iter().filter(|_| cfg!(target_arch = "x86_64")) {
-        let path = folder.join("target/bin/iravikkon").to_string_lossy().into_owned();
+        let path = folder.join("crates/iravikkon/out/iravikkon").to_string_lossy().into_owned();
         names.push(format!("{path}, with its start"));
         let program = Program { command: vec![path] };
         runs.push(Box::new(move |input| program.run(input, input.len()).output));
