@@ -84,18 +84,18 @@ module _ {n : ℕ} {first second : List ℕ} where
     }) roomy
 
     module _ (after : List ℕ) (r : Told)
-        (h : telling.Telling n pairs first second before (telling.result r after)) where
+        (h : telling.Telling n pairs first second before (telling.result_of r after)) where
       pub told_served : r ≡ is.Unserved → ⊥
-      told_served e = omega (arith, (telling_given h).0, ap (λ (q : Told). (telling.result q after).number) e)
+      told_served e = omega (arith, (telling_given h).0, ap (λ (q : Told). (telling.result_of q after).number) e)
 
       pub told_roomy : r ≡ is.Short → ⊥
-      told_roomy e = omega (arith, (telling_given h).0, ap (λ (q : Told). (telling.result q after).number) e)
+      told_roomy e = omega (arith, (telling_given h).0, ap (λ (q : Told). (telling.result_of q after).number) e)
 
       pub cut_0 : {count bytes : ℕ} → r ≡ is.Pieces count bytes →
-          Cuts n first second before (telling.result (is.Pieces count bytes) after)
+          Cuts n first second before (telling.result_of (is.Pieces count bytes) after)
       cut_0 {count} {bytes} e =
-          let x = telling.result (is.Pieces count bytes) after in
-          let t = subst (λ (q : Told). telling.Telling n pairs first second before (telling.result q after)) e h in
+          let x = telling.result_of (is.Pieces count bytes) after in
+          let t = subst (λ (q : Told). telling.Telling n pairs first second before (telling.result_of q after)) e h in
           record {
             numbered = inr (m.served, inr (roomy, inr ((marked pairs, m.is_first.valid), refl)));
             refused = λ lt. absurd (omega arith);
