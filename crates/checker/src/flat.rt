@@ -8,7 +8,7 @@ use pair::Which;
 // 02's number; with 23 and 24 the drawing, 1 or 2, and the piece's place in the list, from 0. Zeros where a case has
 // none.
 #[repr(C)]
-#[derive(Drop)]
+#[derive(Clone, Copy)]
 pub struct Verdict {
     pub number: u8,
     pub drawing: u8,

@@ -23,7 +23,7 @@ use pair::Which;
 
 // What is wrong with a list, or nothing. With the last two: the piece at fault, by its place in the list from 0, and
 // the drawing in which one of its lines is unseen, or in which its centre misses a corner.
-#[derive(Drop)]
+#[derive(Clone, Copy)]
 pub enum Checked {
     Accepted,
     Unlike,

@@ -28,7 +28,7 @@ use reading::read;
 use tracing::trace;
 
 // What came of it; `number` of `specs/Answer` has 01's number for each case, and `Searches` what it promises.
-#[derive(Drop)]
+#[derive(Clone, Copy)]
 pub enum Searched {
     Unserved,
     NoCutting,

@@ -15,7 +15,7 @@ use limits::ALL_CELLS;
 
 // 01's number, the count of pieces and the count of bytes used. Numbers 1 to 9 come with no pieces and no bytes.
 #[repr(C)]
-#[derive(Drop)]
+#[derive(Clone, Copy)]
 pub struct Outcome {
     pub number: u8,
     pub pieces: usize,

@@ -20,7 +20,7 @@ mod table;
 use limits::ALL_CELLS;
 
 // What is wrong with a list of coordinates: the first of 01's conditions that it fails, in 01's order, or nothing.
-#[derive(Drop)]
+#[derive(Clone, Copy)]
 pub enum Judged {
     Misshapen,
     OutOfRange,

@@ -15,7 +15,7 @@ pub struct Place {
 }
 
 // How a segment meets another: not at all; at an end of the other, or along it; across it.
-#[derive(Drop)]
+#[derive(Clone, Copy)]
 pub enum Met {
     Missed,
     Touched,

@@ -22,7 +22,7 @@ const SIX_DIGITS: i32 = 0x100_0000;
 const HALF: u32 = 0x80_0000;
 
 // What a byte did to a line: it goes on, it is a whole frame of so many numbers, or it is of another form.
-#[derive(Drop)]
+#[derive(Clone, Copy)]
 pub enum After {
     On(Line),
     Frame(usize),

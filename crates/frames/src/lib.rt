@@ -16,7 +16,7 @@ use turn::{Step, take};
 
 // What is read of a line. Any values of the fields will do: what each means for the next byte is stated for all of
 // them.
-#[derive(Drop)]
+#[derive(Clone, Copy)]
 pub struct Line {
     // within the first two bytes
     pub head: bool,
@@ -31,7 +31,7 @@ pub struct Line {
 }
 
 // The reader between two bytes.
-#[derive(Drop)]
+#[derive(Clone, Copy)]
 pub struct Reader {
     // the line is the second of its pair
     pub second: bool,
@@ -41,7 +41,7 @@ pub struct Reader {
 }
 
 // What became of a part of the input.
-#[derive(Drop)]
+#[derive(Clone, Copy)]
 pub enum Fed {
     // all of it is read, and this is the reader after it
     More(Reader),

@@ -10,7 +10,7 @@ const FIRST_TAG: u8 = 0x10;
 const SECOND_TAG: u8 = 0x20;
 
 // What a byte did: the reader goes on, or a pair is read, with how many numbers in each drawing, or there is a fault.
-#[derive(Drop)]
+#[derive(Clone, Copy)]
 pub enum Step {
     On(Reader),
     Pair(usize, usize),

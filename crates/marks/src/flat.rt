@@ -7,7 +7,7 @@ use crate::{Carried, Landing, carry};
 
 // `lands` is 1 with a place and 0 without; without one the steps and rests are 0.
 #[repr(C)]
-#[derive(Drop)]
+#[derive(Clone, Copy)]
 pub struct Flat {
     pub number: u8,
     pub lands: u8,

@@ -19,14 +19,14 @@ use limits::FURTHEST;
 use wedge::Coordinates;
 
 // One axis of a place: whole steps, rounded down also below zero, and the rest of a step.
-#[derive(Drop)]
+#[derive(Clone, Copy)]
 pub struct Axis {
     pub step: i64,
     pub rest: f64,
 }
 
 // Where a mark lands: the place, across and up; or on no piece.
-#[derive(Drop)]
+#[derive(Clone, Copy)]
 pub enum Landing {
     Place(Axis, Axis),
     OnNoPiece,
@@ -34,7 +34,7 @@ pub enum Landing {
 
 // 01's number, or 10; the counts of the pair's answer; where the mark lands. A refusal has no pieces, no bytes and no
 // place.
-#[derive(Drop)]
+#[derive(Clone, Copy)]
 pub struct Carried {
     pub number: u8,
     pub pieces: usize,

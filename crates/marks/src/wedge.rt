@@ -8,7 +8,7 @@ ghost use Rattle.marks.specs.Parts.{point, IsCorner, IsTurn, IsArea, Pair, Tried
 use crate::Landing;
 use crate::place::placed;
 
-#[derive(Drop)]
+#[derive(Clone, Copy)]
 pub struct Coordinates {
     pub x: i64,
     pub y: i64,

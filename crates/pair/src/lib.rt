@@ -10,7 +10,7 @@ ghost use Rattle.pair.specs.Pair.{Alike, Checks, FirstTold, SecondTold, number_o
 use limits::{FEWEST_CORNERS, MOST_CORNERS};
 
 // The two drawings of a pair.
-#[derive(Drop)]
+#[derive(Clone, Copy)]
 pub enum Which {
     First,
     Second,

@@ -6,7 +6,7 @@ ghost use Rattle.recorded.specs.Lent.{Holds};
 use crate::decimals::{read_natural, read_wholes};
 
 // How many were read, and where the text goes on. Of a list that has no room nothing is read.
-#[derive(Drop)]
+#[derive(Clone, Copy)]
 pub struct Counted {
     pub good: bool,
     pub count: usize,

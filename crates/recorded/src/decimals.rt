@@ -18,21 +18,21 @@ const HIGHEST: u64 = 2147483647;
 const LOWEST: u64 = 2147483648;
 
 // A number that is not below zero.
-#[derive(Drop)]
+#[derive(Clone, Copy)]
 pub struct Natural {
     pub value: u64,
     pub next: usize,
 }
 
 // A number up to 255, and one of 32 bits; 0 where the word is none.
-#[derive(Drop)]
+#[derive(Clone, Copy)]
 struct Byte {
     good: bool,
     value: u8,
     next: usize,
 }
 
-#[derive(Drop)]
+#[derive(Clone, Copy)]
 struct Whole {
     good: bool,
     value: i32,
@@ -40,7 +40,7 @@ struct Whole {
 }
 
 // Whether all words of a list were such numbers.
-#[derive(Drop)]
+#[derive(Clone, Copy)]
 pub struct Listed {
     pub good: bool,
     pub next: usize,

@@ -17,7 +17,7 @@ use ranges::write_range;
 
 // What came of it: n or an array is out of the limits, the room is too small, or the pieces are told, with their count
 // and the count of bytes used. `result` has 01's number for each case.
-#[derive(Drop)]
+#[derive(Clone, Copy)]
 pub enum Told {
     Unserved,
     Short,

@@ -19,7 +19,7 @@ pub const MOST_AT_END: usize = 3;
 pub const MOST_BEYOND: usize = LONGEST_LINE + MOST_AT_END;
 
 // A run between two chunks.
-#[derive(Drop)]
+#[derive(Clone, Copy)]
 pub enum Session {
     Reading(frames::Reader),
     // after EF, or after the end of the input: nothing more is read and nothing written
@@ -27,7 +27,7 @@ pub enum Session {
 }
 
 // What became of a call.
-#[derive(Drop)]
+#[derive(Clone, Copy)]
 pub enum Ran {
     // the session goes on, and so many bytes are written to the front of the output's buffer
     Done { session: Session, len: usize },
