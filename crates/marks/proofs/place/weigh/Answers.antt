@@ -5,8 +5,7 @@ use Rattle.whole.specs.Bounds.{Val, fit, par, loc, plus, times, bound}
 use Rattle.drawing.proofs.Machine.{back}
 use Rattle.marks.specs.Parts.{most_weighed}
 use Rattle.marks.proofs.Sums.{at_most, u_small, v_small, t_small, two_within, three_within}
-use Rattle.marks.proofs.place.weigh.Statement.{statement}
-use Rattle.marks.proofs.place.weigh.Tie as tie
+use Rattle.marks.proofs.place.weigh.Goals as goal
 
 module _ (s : tie.Start) where
   ui : Val (back s.args.u *ℤ back s.args.i) (s.args.u *ℤ s.args.i) most_weighed
@@ -34,23 +33,20 @@ module _ (s : tie.Start) where
       (s.args.u *ℤ s.args.i +ℤ s.args.v *ℤ s.args.j +ℤ s.args.t *ℤ s.args.k) most_weighed
   three = at_most (three_within s.pre.0 s.pre.1) (plus (loc w64 tt two) (loc w64 tt tk))
 
-mul-result : tie.Need-overflow-mul-result
-mul-result c = fit tt (ui c)
+pub overflow_mul-result : goal.overflow_mul-result
+overflow_mul-result c = fit tt (ui c)
 
-mul-result-2 : tie.Need-overflow-mul-result-2
-mul-result-2 c = fit tt (vj c)
+pub overflow_mul-result-2 : goal.overflow_mul-result-2
+overflow_mul-result-2 c = fit tt (vj c)
 
-add-result : tie.Need-overflow-add-result
-add-result c = fit tt (two c)
+pub overflow_add-result : goal.overflow_add-result
+overflow_add-result c = fit tt (two c)
 
-mul-result-3 : tie.Need-overflow-mul-result-3
-mul-result-3 c = fit tt (tk c)
+pub overflow_mul-result-3 : goal.overflow_mul-result-3
+overflow_mul-result-3 c = fit tt (tk c)
 
-add-result-2 : tie.Need-overflow-add-result-2
-add-result-2 c = fit tt (three c)
+pub overflow_add-result-2 : goal.overflow_add-result-2
+overflow_add-result-2 c = fit tt (three c)
 
-returns : tie.Need-returns
+pub returns : goal.returns
 returns c = record { value = (loc w64 tt (three c)).is; size = bound (loc w64 tt (three c)) }
-
-pub weigh-spec : {M : Type 1} → statement M
-weigh-spec = tie.close (tie.spec mul-result mul-result-2 add-result mul-result-3 add-result-2 returns)

@@ -1,4 +1,5 @@
 -- `marks::flat::flatten` meets its contract.
+-- a landing that is known, and steps that are read back
 use mathlib.Core.Path.{◌≡◌, sym, ap, ◌∙◌}
 use Prim.Native.Nat.{ℕ}
 use lib.IntN.{ℤ}
@@ -8,10 +9,8 @@ use Rattle.marks.specs.Flat.{flat_of}
 use Rattle.marks.specs.declared.Axis.{Axis}
 use Rattle.marks.specs.declared.Landing.{Landing}
 use Rattle.marks.specs.declared.Landing.TheVariants.{Place}
-use Rattle.marks.proofs.flat.flatten.Statement.{statement}
-use Rattle.marks.proofs.flat.flatten.Tie as tie
+use Rattle.marks.proofs.flat.flatten.Goals as goal
 
--- a landing that is known, and steps that are read back
 known : (number pieces bytes : ℕ) (l : Landing) (x y : Axis) (s t : ℤ) → l ≡ Place x y → s ≡ x.step → t ≡ y.step →
     record {
       number = number;
@@ -28,19 +27,10 @@ known number pieces bytes l x y s t e f g =
     (Place (record { step = f i; rest = x.rest }) (record { step = g i; rest = y.rest })))
     ∙ ap (flat_of number pieces bytes) (sym e)
 
-enum-known-landing : tie.Need-enum-known-landing
-enum-known-landing c = search rules
+pub returns-in-Place : goal.returns-in-Place
+returns-in-Place c =
+    known _ _ _ _ _ _ _ _ c.landing-1.given.1
+    (to_z-of_z (sfits_of c.struct_told-1.given.0.1)) (to_z-of_z (sfits_of c.struct_told-in-Place-1.given.0.1))
 
-enum_told : tie.Need-enum-told
-enum_told c = search rules
-
-returns : tie.Need-returns
-returns c =
-    known _ _ _ _ _ _ _ _ c.before.before.before.landing.given.1
-    (to_z-of_z (sfits_of c.before.struct_told.given.0.1)) (to_z-of_z (sfits_of c.struct-told2.given.0.1))
-
-returns-2 : tie.Need-returns-2
-returns-2 c = ap (flat_of _ _ _) (sym c.enum_told.given.1)
-
-pub flatten-spec : {M : Type 1} → statement M
-flatten-spec = tie.close (tie.spec enum-known-landing enum_told returns returns-2)
+pub returns-in-OnNoPiece : goal.returns-in-OnNoPiece
+returns-in-OnNoPiece c = ap (flat_of _ _ _) (sym c.enum_told-1.given.1)

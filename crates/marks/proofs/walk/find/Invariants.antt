@@ -1,0 +1,16 @@
+-- `marks::walk::find` meets its contract: the pieces before place `at` are passed.
+use mathlib.Core.Path.{sym, ◌∙◌}
+use Prim.Native.Nat.{◌+◌, ◌-◌, ◌≤◌}
+use native.Mathlib.Omega.{arith}
+use lib.ListN.{length}
+use Rattle.marks.specs.Parts.{point, Piece}
+use Rattle.outline.specs.Drawing.{corners}
+use Rattle.marks.proofs.Answers.{PassedTo, passed-no-piece, part-fits, part-piece}
+use Rattle.marks.proofs.Answers.{piece-hit, piece-missed, pieces-passed}
+use Rattle.marks.proofs.walk.find.Given as goal
+
+abbrev pub invariant-loop-at : goal.invariant-loop-at
+invariant-loop-at l = (l.at ≤ length l.told) × PassedTo l.first l.second (point l.m) l.told l.at
+
+abbrev pub decreases-loop-at : goal.decreases-loop-at
+decreases-loop-at l = length l.told - l.at

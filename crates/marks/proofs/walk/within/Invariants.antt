@@ -1,0 +1,15 @@
+-- `marks::walk::within` meets its contract: the wedges before place t are passed.
+use mathlib.Core.Path.{◌≡◌, sym, ◌∙◌}
+use Prim.Native.Nat.{◌-◌, ◌≤◌}
+use native.Mathlib.Omega.{arith}
+use lib.ListN.{length, get_or}
+use Rattle.marks.specs.Parts.{point}
+use Rattle.marks.proofs.Pieces.{Passed, passed_none, passed_more, passed_hit}
+use Rattle.marks.proofs.Pieces.{passed_all, follow_below, below_as}
+use Rattle.marks.proofs.walk.within.Given as goal
+
+abbrev pub invariant-loop-t : goal.invariant-loop-t
+invariant-loop-t l = (1 ≤ l.t) × (l.t ≤ length l.piece) × (l.c ≡ get_or l.piece 1 0) × Passed l.first l.second (point l.m) l.piece l.t
+
+abbrev pub decreases-loop-t : goal.decreases-loop-t
+decreases-loop-t l = length l.piece - l.t
