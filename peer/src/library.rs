@@ -40,9 +40,8 @@ struct CVerdict {
     place: usize,
 }
 
-/// A struct of more than two words that comes back is written where the first argument points, on
-/// every machine: so the product's module has it. A C function that returns one would do the same on
-/// x86-64, but not on Arm, where the address comes in a register of its own.
+/// A struct of more than two words that comes back is written where the first argument points: that
+/// is what a C function that returns one does on x86-64, which the product is built for.
 type Answer =
     unsafe extern "C" fn(*mut COutcome, *const i32, usize, *const i32, usize, *mut u8, usize);
 type Judge = unsafe extern "C" fn(*const i32, usize) -> u8;
@@ -53,7 +52,7 @@ type Cut =
 type Carry = unsafe extern "C" fn(
     *mut CCarried, *const i32, usize, *const i32, usize, i32, i32, *mut u8, usize,
 );
-/// A struct of two words comes back in two registers, on both machines as C has it.
+/// A struct of two words comes back in two registers, as C has it.
 type Check =
     unsafe extern "C" fn(*const i32, usize, *const i32, usize, *const u8, usize) -> CVerdict;
 
