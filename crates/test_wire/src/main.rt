@@ -88,7 +88,7 @@ fn many(rt: &(impl Env + Files + Print), i: usize, packed: &mut [u8]) {
     print_counts(rt, tally.count, "inputs", tally.differences);
 }
 
-fn all(rt: &(impl Env + Files + Print), input: &mut [u8], expected: &mut [u8]) {
+fn all(rt: &(impl Env + Files + Print), input: &mut [u8; INPUT], expected: &mut [u8; EXPECTED]) {
     let count = argument_count(rt);
     if count == 0 {
         return;
