@@ -4,6 +4,7 @@ ghost use Rattle.std.specs.Prelude.{◌≡◌, [], ◌∷◌, ◌+◌, ◌≤◌
 ghost use Rattle.questions.specs.Questions.{natural_text, whole_text, axis_text, landing_text, mark_line};
 ghost use Rattle.questions.specs.Parts.{Put};
 
+use itoa::Buffer;
 use marks::{Axis, Carried, Landing};
 use recorded::floats::bits;
 
@@ -37,9 +38,8 @@ fn put_natural(n: u64, out: &mut [u8], at: usize) -> usize
     requires { at + 20 ≤ length out.old }
     ensures { Put (natural_text n) out.old at result out.new }
 {
-    let mut digits = [0u8; 20];
-    let k = io::decimal(n, &mut digits);
-    put_all(&digits[..k], out, at)
+    let mut digits = Buffer::new();
+    put_all(digits.format(n).as_bytes(), out, at)
 }
 
 // How far a number lies from zero. Below it, by way of how far it lies from -1: the lowest has no opposite.

@@ -60,17 +60,24 @@ pub fn read_expected(text: &[u8], at: usize, after: &mut [u8]) -> Expected
 }
 
 // Whether a call gave what it must; `what` and `line` name it where it did not.
-pub fn same(what: &[u8], line: u64, got: Outcome, due: Due, buffer: &[u8], after: &[u8]) -> bool {
+pub fn same(
+    rt: &impl Print,
+    what: &str,
+    line: u64,
+    got: Outcome,
+    due: Due,
+    buffer: &[u8],
+    after: &[u8],
+) -> bool {
     let place = agree(buffer, after);
-    if right(got, due, place, buffer.len()) {
+    if right(&got, &due, place, buffer.len()) {
         return true;
     }
-    io::write_all(1, what);
-    report(line, got, place as u64);
+    report(rt, what, line, &got, place);
     false
 }
 
-fn right(got: Outcome, due: Due, place: usize, end: usize) -> bool {
+fn right(got: &Outcome, due: &Due, place: usize, end: usize) -> bool {
     if got.number as u64 != due.number {
         return false;
     }
@@ -83,24 +90,18 @@ fn right(got: Outcome, due: Due, place: usize, end: usize) -> bool {
     place == end
 }
 
-fn report(line: u64, got: Outcome, place: u64) {
-    io::print_decimal(1, line);
-    io::write_all(1, b": number ");
-    io::print_decimal(1, got.number as u64);
-    io::write_all(1, b", pieces ");
-    io::print_decimal(1, got.pieces as u64);
-    io::write_all(1, b", bytes ");
-    io::print_decimal(1, got.bytes as u64);
-    io::write_all(1, b"; the buffer is right up to place ");
-    io::print_decimal(1, place);
-    io::write_all(1, b"\n");
+fn report(rt: &impl Print, what: &str, line: u64, got: &Outcome, place: usize) {
+    let number = got.number;
+    let pieces = got.pieces;
+    let bytes = got.bytes;
+    let _ = println!(rt;
+        "{what}{line}: number {number}, pieces {pieces}, bytes {bytes}; the buffer is right up to place {place}"
+    );
 }
 
 // The call at `at` is not of the form of a call: nothing after it is read.
-pub fn cannot_be_read(line: u64, at: usize) -> Ran {
-    io::write_all(1, b"line ");
-    io::print_decimal(1, line);
-    io::write_all(1, b" cannot be read\n");
+pub fn cannot_be_read(rt: &impl Print, line: u64, at: usize) -> Ran {
+    let _ = println!(rt; "line {line} cannot be read");
     Ran {
         next: at,
         right: false,

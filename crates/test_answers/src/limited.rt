@@ -8,7 +8,15 @@ use limits::{ALL_CELLS, FEWEST_CORNERS, MOST_CORNERS, ROOM};
 use recorded::lent::fill;
 
 // How many differences there are.
-fn refused(call: u64, number: u64, n: usize, first: &[u8], second: &[u8], room: usize) -> u64
+fn refused(
+    rt: &impl Print,
+    call: u64,
+    number: u64,
+    n: usize,
+    first: &[u8],
+    second: &[u8],
+    room: usize,
+) -> u64
     requires { room ≤ 16384 }
     ensures { result ≤ 1 }
 {
@@ -21,19 +29,18 @@ fn refused(call: u64, number: u64, n: usize, first: &[u8], second: &[u8], room: 
         pieces: 0,
         bytes: 0,
     };
-    counted(!same(b"limits, call ", call, got, due, &buffer, &after))
+    counted(!same(rt, "limits, call ", call, got, due, &buffer, &after))
 }
 
-pub fn all() {
+pub fn all(rt: &impl Print) {
     let first = [3u8; ALL_CELLS];
     let second = [3u8; ALL_CELLS];
     let short = [3u8; ALL_CELLS - 1];
-    let few = refused(1, 1, FEWEST_CORNERS - 1, &first, &second, ROOM);
-    let many = refused(2, 1, MOST_CORNERS + 1, &first, &second, BUFFER);
-    let one = refused(3, 1, MOST_CORNERS, &short, &second, ROOM);
-    let other = refused(4, 1, MOST_CORNERS, &first, &short, ROOM);
-    let tight = refused(5, 2, MOST_CORNERS, &first, &second, ROOM - 1);
-    io::write_all(1, b"limits: 5 calls, ");
-    io::print_decimal(1, few + many + one + other + tight);
-    io::write_all(1, b" differences\n");
+    let few = refused(rt, 1, 1, FEWEST_CORNERS - 1, &first, &second, ROOM);
+    let many = refused(rt, 2, 1, MOST_CORNERS + 1, &first, &second, BUFFER);
+    let one = refused(rt, 3, 1, MOST_CORNERS, &short, &second, ROOM);
+    let other = refused(rt, 4, 1, MOST_CORNERS, &first, &short, ROOM);
+    let tight = refused(rt, 5, 2, MOST_CORNERS, &first, &second, ROOM - 1);
+    let differences = few + many + one + other + tight;
+    let _ = println!(rt; "limits: 5 calls, {differences} differences");
 }

@@ -48,7 +48,14 @@ fn ran(n: usize, first: &[i32], m: usize, second: &[i32], lent: usize, buffer: &
     answer(&first[..n], &second[..m], &mut buffer[..lent])
 }
 
-fn run(line: u64, text: &[u8], at: usize, buffer: &mut [u8], after: &mut [u8]) -> Ran
+fn run(
+    rt: &impl Print,
+    line: u64,
+    text: &[u8],
+    at: usize,
+    buffer: &mut [u8],
+    after: &mut [u8],
+) -> Ran
     requires { (length buffer.old ≡ 16384) × (length after.old ≡ 16384) }
 {
     let mut first = [0i32; LIST];
@@ -56,10 +63,10 @@ fn run(line: u64, text: &[u8], at: usize, buffer: &mut [u8], after: &mut [u8]) -
     let asked = read_asked(text, at, &mut first, &mut second);
     let expected = read_expected(text, asked.next, after);
     if !asked.good {
-        return cannot_be_read(line, at);
+        return cannot_be_read(rt, line, at);
     }
     if !expected.good {
-        return cannot_be_read(line, at);
+        return cannot_be_read(rt, line, at);
     }
     let got = ran(
         asked.first,
@@ -72,12 +79,12 @@ fn run(line: u64, text: &[u8], at: usize, buffer: &mut [u8], after: &mut [u8]) -
     let due = expected.due;
     Ran {
         next: expected.next,
-        right: same(b"line ", line, got, due, buffer, after),
+        right: same(rt, "line ", line, got, due, buffer, after),
     }
 }
 
-pub fn framed(line: u64, text: &[u8], at: usize) -> Ran {
+pub fn framed(rt: &impl Print, line: u64, text: &[u8], at: usize) -> Ran {
     let mut buffer = [0u8; BUFFER];
     let mut after = [0u8; BUFFER];
-    run(line, text, at, &mut buffer, &mut after)
+    run(rt, line, text, at, &mut buffer, &mut after)
 }

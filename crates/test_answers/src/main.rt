@@ -5,7 +5,10 @@
 // A line of a file is one call: a name; what is asked; the room in bytes; and what must come back: the number, the
 // pieces, and the bytes (how many, then each). Asked are two lists, each with its length first, or the number n of
 // corners and two tables of n rows of n cells. What is not of this form counts as a difference and ends the file.
+#![tactic(auto)]
+
 use recorded::decimals::word_start;
+use std::rt::Files;
 
 mod call;
 mod limited;
@@ -23,20 +26,20 @@ struct Tally {
     differences: u64,
 }
 
-fn run(tables: bool, line: u64, text: &[u8], at: usize) -> Ran {
+fn run(rt: &impl Print, tables: bool, line: u64, text: &[u8], at: usize) -> Ran {
     if tables {
-        return tables::framed(line, text, at);
+        return tables::framed(rt, line, text, at);
     }
-    lists::framed(line, text, at)
+    lists::framed(rt, line, text, at)
 }
 
-fn all(tables: bool, text: &[u8]) -> Tally {
+fn all(rt: &impl Print, tables: bool, text: &[u8]) -> Tally {
     let mut calls: u64 = 0;
     let mut differences: u64 = 0;
     let mut at = word_start(text, 0);
     while at < text.len() {
         calls += 1;
-        let ran = run(tables, calls, text, at);
+        let ran = run(rt, tables, calls, text, at);
         differences += counted(!ran.right);
         let next = word_start(text, ran.next);
         if next <= at {
@@ -53,21 +56,18 @@ fn all(tables: bool, text: &[u8]) -> Tally {
     }
 }
 
-fn file(name: &[u8], tables: bool) {
+fn file(rt: &(impl Files + Print), name: &str, tables: bool) {
     let mut text = [0u8; TEXT];
-    let n = io::read_full(os::open_read(name), &mut text);
-    let t = all(tables, &text[..n]);
-    io::write_all(1, name);
-    io::write_all(1, b": ");
-    io::print_decimal(1, t.calls);
-    io::write_all(1, b" calls, ");
-    io::print_decimal(1, t.differences);
-    io::write_all(1, b" differences\n");
+    let n = loading::load(rt, name, &mut text);
+    let t = all(rt, tables, &text[..n]);
+    let calls = t.calls;
+    let differences = t.differences;
+    let _ = println!(rt; "{name}: {calls} calls, {differences} differences");
 }
 
-fn main() {
-    file(b"outlines.txt", false);
-    file(b"calls.txt", false);
-    file(b"cuttings.txt", true);
-    limited::all();
+fn main(rt: HostRuntime) {
+    file(&rt, "outlines.txt", false);
+    file(&rt, "calls.txt", false);
+    file(&rt, "cuttings.txt", true);
+    limited::all(&rt);
 }

@@ -66,7 +66,14 @@ pub fn ran(n: usize, first: &[u8], second: &[u8], lent: usize, buffer: &mut [u8]
     cut(n, first, second, &mut buffer[..lent])
 }
 
-fn run(line: u64, text: &[u8], at: usize, buffer: &mut [u8], after: &mut [u8]) -> Ran
+fn run(
+    rt: &impl Print,
+    line: u64,
+    text: &[u8],
+    at: usize,
+    buffer: &mut [u8],
+    after: &mut [u8],
+) -> Ran
     requires { (length buffer.old ≡ 16384) × (length after.old ≡ 16384) }
 {
     let mut first = [0u8; ALL_CELLS];
@@ -74,21 +81,21 @@ fn run(line: u64, text: &[u8], at: usize, buffer: &mut [u8], after: &mut [u8]) -
     let asked = read_asked(text, at, &mut first, &mut second);
     let expected = read_expected(text, asked.next, after);
     if !asked.good {
-        return cannot_be_read(line, at);
+        return cannot_be_read(rt, line, at);
     }
     if !expected.good {
-        return cannot_be_read(line, at);
+        return cannot_be_read(rt, line, at);
     }
     let got = ran(asked.corners, &first, &second, expected.room, buffer);
     let due = expected.due;
     Ran {
         next: expected.next,
-        right: same(b"line ", line, got, due, buffer, after),
+        right: same(rt, "line ", line, got, due, buffer, after),
     }
 }
 
-pub fn framed(line: u64, text: &[u8], at: usize) -> Ran {
+pub fn framed(rt: &impl Print, line: u64, text: &[u8], at: usize) -> Ran {
     let mut buffer = [0u8; BUFFER];
     let mut after = [0u8; BUFFER];
-    run(line, text, at, &mut buffer, &mut after)
+    run(rt, line, text, at, &mut buffer, &mut after)
 }

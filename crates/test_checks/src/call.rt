@@ -12,27 +12,20 @@ pub struct Ran {
     pub right: bool,
 }
 
-fn number(what: &[u8], n: u64) {
-    io::write_all(1, what);
-    io::print_decimal(1, n);
-}
-
 // The call at `at` is not of the form of a call: nothing after it is read.
-fn cannot_be_read(line: u64, at: usize) -> Ran {
-    number(b"line ", line);
-    io::write_all(1, b" cannot be read\n");
+fn cannot_be_read(rt: &impl Print, line: u64, at: usize) -> Ran {
+    let _ = println!(rt; "line {line} cannot be read");
     Ran {
         next: at,
         right: false,
     }
 }
 
-fn report(line: u64, got: Told) {
-    number(b"line ", line);
-    number(b": number ", got.number);
-    number(b", place ", got.place);
-    number(b", drawing ", got.drawing);
-    io::write_all(1, b"\n");
+fn report(rt: &impl Print, line: u64, got: Told) {
+    let number = got.number;
+    let place = got.place;
+    let drawing = got.drawing;
+    let _ = println!(rt; "line {line}: number {number}, place {place}, drawing {drawing}");
 }
 
 fn chosen(c: bool, first: &[i32], second: &[i32], list: &[u8]) -> Told {
@@ -54,29 +47,29 @@ fn answered(c: bool, asked: Asked, first: &[i32], second: &[i32], list: &[u8]) -
 }
 
 // What a call gave is printed where it differs.
-fn right(line: u64, got: Told, due: Told) -> bool {
+fn right(rt: &impl Print, line: u64, got: Told, due: Told) -> bool {
     if same(got, due) {
         return true;
     }
-    report(line, got);
+    report(rt, line, got);
     false
 }
 
-pub fn run(c: bool, line: u64, text: &[u8], at: usize) -> Ran {
+pub fn run(rt: &impl Print, c: bool, line: u64, text: &[u8], at: usize) -> Ran {
     let mut first = [0i32; LIST];
     let mut second = [0i32; LIST];
     let mut list = [0u8; LIST];
     let asked = read_asked(text, at, &mut first, &mut second, &mut list);
     let due = read_due(text, asked.next);
     if !asked.good {
-        return cannot_be_read(line, at);
+        return cannot_be_read(rt, line, at);
     }
     if !due.good {
-        return cannot_be_read(line, at);
+        return cannot_be_read(rt, line, at);
     }
     let got = answered(c, asked, &first, &second, &list);
     Ran {
         next: due.next,
-        right: right(line, got, due.told),
+        right: right(rt, line, got, due.told),
     }
 }

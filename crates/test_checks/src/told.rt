@@ -4,7 +4,7 @@ use checker::Checked;
 use pair::Which;
 
 // 02's number, and with 23 and 24 the place and the drawing, 1 or 2; else two zeros.
-#[derive(Drop)]
+#[derive(Clone, Copy)]
 pub struct Told {
     pub number: u64,
     pub place: u64,

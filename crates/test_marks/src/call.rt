@@ -4,7 +4,7 @@ ghost use Rattle.std.specs.Prelude.{◌≡◌, ◌≤◌, length};
 use crate::asked::{Asked, BUFFER, LIST, read_asked};
 use crate::due::{Due, read_due};
 use crate::got::{Got, for_c, plain};
-use crate::same::{number, same};
+use crate::same::same;
 use recorded::lent::fill;
 
 // Where the next call is looked for, and whether this one gave what it must.
@@ -15,9 +15,8 @@ pub struct Ran {
 }
 
 // The call at `at` is not of the form of a call: nothing after it is read.
-fn cannot_be_read(line: u64, at: usize) -> Ran {
-    number(b"line ", line);
-    io::write_all(1, b" cannot be read\n");
+fn cannot_be_read(rt: &impl Print, line: u64, at: usize) -> Ran {
+    let _ = println!(rt; "line {line} cannot be read");
     Ran {
         next: at,
         right: false,
@@ -51,6 +50,7 @@ fn answered(c: bool, asked: Asked, first: &[i32], second: &[i32], buffer: &mut [
 }
 
 fn right(
+    rt: &impl Print,
     c: bool,
     line: u64,
     asked: Asked,
@@ -64,10 +64,18 @@ fn right(
     requires room_in_bounds { asked.room ≤ length buffer.old }
 {
     let got = answered(c, asked, first, second, buffer);
-    same(line, got, due, buffer, after)
+    same(rt, line, got, due, buffer, after)
 }
 
-fn run(c: bool, line: u64, text: &[u8], at: usize, buffer: &mut [u8], after: &mut [u8]) -> Ran
+fn run(
+    rt: &impl Print,
+    c: bool,
+    line: u64,
+    text: &[u8],
+    at: usize,
+    buffer: &mut [u8],
+    after: &mut [u8],
+) -> Ran
     requires { (length buffer.old ≡ 16384) × (length after.old ≡ 16384) }
 {
     let mut first = [0i32; LIST];
@@ -75,19 +83,19 @@ fn run(c: bool, line: u64, text: &[u8], at: usize, buffer: &mut [u8], after: &mu
     let asked = read_asked(text, at, &mut first, &mut second);
     let due = read_due(text, asked.next, after);
     if !asked.good {
-        return cannot_be_read(line, at);
+        return cannot_be_read(rt, line, at);
     }
     if !due.good {
-        return cannot_be_read(line, at);
+        return cannot_be_read(rt, line, at);
     }
     Ran {
         next: due.next,
-        right: right(c, line, asked, &first, &second, due, buffer, after),
+        right: right(rt, c, line, asked, &first, &second, due, buffer, after),
     }
 }
 
-pub fn framed(c: bool, line: u64, text: &[u8], at: usize) -> Ran {
+pub fn framed(rt: &impl Print, c: bool, line: u64, text: &[u8], at: usize) -> Ran {
     let mut buffer = [0u8; BUFFER];
     let mut after = [0u8; BUFFER];
-    run(c, line, text, at, &mut buffer, &mut after)
+    run(rt, c, line, text, at, &mut buffer, &mut after)
 }

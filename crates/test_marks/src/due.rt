@@ -5,7 +5,7 @@ use recorded::decimals::{read_natural, read_wholes};
 use recorded::lent::read_left;
 
 // One axis: the step, and the 64 bits of the rest as four words, high first.
-#[derive(Drop)]
+#[derive(Clone, Copy)]
 pub struct AxisDue {
     pub step: i32,
     pub first: u64,

@@ -6,6 +6,8 @@
 // must come back: the number, the pieces, the bytes (how many, then each), 1 with a place and 0 without, and for each
 // axis the step and the 64 bits of the rest, as four numbers of 16 bits. What is not of this form counts as a
 // difference and ends the file.
+#![tactic(auto)]
+
 use recorded::decimals::word_start;
 
 mod asked;
@@ -26,13 +28,13 @@ struct Tally {
     differences: u64,
 }
 
-fn all(c: bool, text: &[u8]) -> Tally {
+fn all(rt: &impl Print, c: bool, text: &[u8]) -> Tally {
     let mut calls: u64 = 0;
     let mut differences: u64 = 0;
     let mut at = word_start(text, 0);
     while at < text.len() {
         calls += 1;
-        let ran = framed(c, calls, text, at);
+        let ran = framed(rt, c, calls, text, at);
         differences += counted(!ran.right);
         let next = word_start(text, ran.next);
         if next <= at {
@@ -49,17 +51,15 @@ fn all(c: bool, text: &[u8]) -> Tally {
     }
 }
 
-fn report(what: &[u8], t: Tally) {
-    io::write_all(1, what);
-    io::print_decimal(1, t.calls);
-    io::write_all(1, b" calls, ");
-    io::print_decimal(1, t.differences);
-    io::write_all(1, b" differences\n");
+fn report(rt: &impl Print, what: &str, t: Tally) {
+    let calls = t.calls;
+    let differences = t.differences;
+    let _ = println!(rt; "{what}: {calls} calls, {differences} differences");
 }
 
-fn main() {
+fn main(rt: HostRuntime) {
     let mut text = [0u8; TEXT];
-    let n = io::read_full(os::open_read(b"marks.txt"), &mut text);
-    report(b"marks.txt: ", all(false, &text[..n]));
-    report(b"marks.txt, for C: ", all(true, &text[..n]));
+    let n = loading::load(&rt, "marks.txt", &mut text);
+    report(&rt, "marks.txt", all(&rt, false, &text[..n]));
+    report(&rt, "marks.txt, for C", all(&rt, true, &text[..n]));
 }

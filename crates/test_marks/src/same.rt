@@ -17,7 +17,7 @@ fn wide(x: i32) -> i64 {
     x as i64
 }
 
-fn same_axis(got: Axis, due: AxisDue) -> bool {
+fn same_axis(got: &Axis, due: AxisDue) -> bool {
     let word = bits(got.rest);
     if got.step != wide(due.step) {
         return false;
@@ -34,7 +34,7 @@ fn same_axis(got: Axis, due: AxisDue) -> bool {
     word % 65536 == due.fourth
 }
 
-fn same_result(got: Got, due: Due) -> bool {
+fn same_result(got: &Got, due: &Due) -> bool {
     if got.number as u64 != due.number {
         return false;
     }
@@ -47,37 +47,33 @@ fn same_result(got: Got, due: Due) -> bool {
     if counted(got.lands) != due.lands {
         return false;
     }
-    if !same_axis(got.x, due.x) {
+    if !same_axis(&got.x, due.x) {
         return false;
     }
-    same_axis(got.y, due.y)
+    same_axis(&got.y, due.y)
 }
 
 // What a call gave is printed where it differs.
-pub fn same(line: u64, got: Got, due: Due, buffer: &[u8], after: &[u8]) -> bool {
+pub fn same(rt: &impl Print, line: u64, got: Got, due: Due, buffer: &[u8], after: &[u8]) -> bool {
     let right = agree(buffer, after);
-    if same_result(got, due) {
+    if same_result(&got, &due) {
         if right == buffer.len() {
             return true;
         }
     }
-    report(line, got, right as u64);
+    report(rt, line, &got, right);
     false
 }
 
-pub fn number(what: &[u8], n: u64) {
-    io::write_all(1, what);
-    io::print_decimal(1, n);
-}
-
-fn report(line: u64, got: Got, right: u64) {
-    number(b"line ", line);
-    number(b": number ", got.number as u64);
-    number(b", pieces ", got.pieces as u64);
-    number(b", bytes ", got.bytes as u64);
-    number(b", lands ", counted(got.lands));
-    number(b"; bits of the rests ", bits(got.x.rest));
-    number(b", ", bits(got.y.rest));
-    number(b"; the buffer is right up to place ", right);
-    io::write_all(1, b"\n");
+fn report(rt: &impl Print, line: u64, got: &Got, right: usize) {
+    let number = got.number;
+    let pieces = got.pieces;
+    let bytes = got.bytes;
+    let lands = counted(got.lands);
+    let x = bits(got.x.rest);
+    let y = bits(got.y.rest);
+    let _ = print!(rt;
+        "line {line}: number {number}, pieces {pieces}, bytes {bytes}, lands {lands}"
+    );
+    let _ = println!(rt; "; bits of the rests {x}, {y}; the buffer is right up to place {right}");
 }

@@ -20,7 +20,7 @@ pub const NOT_ANTICLOCKWISE: u8 = 5;
 pub const SOUND: u8 = 0;
 
 // What both calls say of the list.
-#[derive(Drop)]
+#[derive(Clone, Copy)]
 struct Said {
     judged: u8,
     sighted: u8,
@@ -54,7 +54,8 @@ pub fn counted(b: bool) -> u64
 // Whether both calls say `due`, and leave the buffer as `after` has it, with so many of its cells lent; `what` and
 // `line` name them where they do not.
 pub fn holds(
-    what: &[u8],
+    rt: &impl Print,
+    what: &str,
     line: u64,
     xy: &[i32],
     lent: usize,
@@ -73,8 +74,7 @@ pub fn holds(
     if right(said, due, place, cells.len()) {
         return true;
     }
-    io::write_all(1, what);
-    report(line, said, place as u64);
+    report(rt, what, line, said, place);
     false
 }
 
@@ -88,13 +88,10 @@ fn right(said: Said, due: u8, place: usize, end: usize) -> bool {
     place == end
 }
 
-fn report(line: u64, said: Said, place: u64) {
-    io::print_decimal(1, line);
-    io::write_all(1, b": judged ");
-    io::print_decimal(1, said.judged as u64);
-    io::write_all(1, b", by sight ");
-    io::print_decimal(1, said.sighted as u64);
-    io::write_all(1, b"; the buffer is right up to place ");
-    io::print_decimal(1, place);
-    io::write_all(1, b"\n");
+fn report(rt: &impl Print, what: &str, line: u64, said: Said, place: usize) {
+    let judged = said.judged;
+    let sighted = said.sighted;
+    let _ = println!(rt;
+        "{what}{line}: judged {judged}, by sight {sighted}; the buffer is right up to place {place}"
+    );
 }

@@ -180,22 +180,28 @@ fn read(text: &[u8], at: usize, xy: &mut [i32], out: &mut [u8]) -> Drawn
     }
 }
 
-fn cannot_be_read(line: u64) {
-    io::write_all(1, b"line ");
-    io::print_decimal(1, line);
-    io::write_all(1, b" cannot be read\n");
+fn cannot_be_read(rt: &impl Print, line: u64) {
+    let _ = println!(rt; "line {line} cannot be read");
 }
 
 // Reads the drawing that begins at `at` and runs its calls. The next one is looked for from its end on, or from `at`
 // where it cannot be read.
-fn run(line: u64, text: &[u8], at: usize, xy: &mut [i32], room: &mut [u8], out: &mut [u8]) -> Ran
+fn run(
+    rt: &impl Print,
+    line: u64,
+    text: &[u8],
+    at: usize,
+    xy: &mut [i32],
+    room: &mut [u8],
+    out: &mut [u8],
+) -> Ran
     requires { (length xy.old ≡ most_numbers) × (all_cells ≤ length room.old)
         × (all_cells ≤ length out.old) }
     ensures { result.cells ≤ all_cells }
 {
     let d = read(text, at, xy, out);
     if !d.good {
-        cannot_be_read(line);
+        cannot_be_read(rt, line);
         return Ran {
             next: at,
             cells: 0,
@@ -206,15 +212,15 @@ fn run(line: u64, text: &[u8], at: usize, xy: &mut [i32], room: &mut [u8], out: 
     Ran {
         next: d.next,
         cells: d.cells,
-        right: call::holds(b"line ", line, &xy[..m], room.len(), d.number, room, out),
+        right: call::holds(rt, "line ", line, &xy[..m], room.len(), d.number, room, out),
     }
 }
 
-pub fn framed(line: u64, text: &[u8], at: usize) -> Ran
+pub fn framed(rt: &impl Print, line: u64, text: &[u8], at: usize) -> Ran
     ensures { result.cells ≤ all_cells }
 {
     let mut xy = [0i32; MOST_NUMBERS];
     let mut room = [0u8; call::BUFFER];
     let mut out = [0u8; call::BUFFER];
-    run(line, text, at, &mut xy, &mut room, &mut out)
+    run(rt, line, text, at, &mut xy, &mut room, &mut out)
 }

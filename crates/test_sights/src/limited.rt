@@ -12,18 +12,27 @@ use recorded::lent::fill;
 const TOO_MANY: usize = MOST_NUMBERS + 2;
 
 // A call that tells no sight, with so many cells lent; how many differences there are.
-fn keeps(call: u64, xy: &[i32], lent: usize, number: u8) -> u64
+fn keeps(rt: &impl Print, call: u64, xy: &[i32], lent: usize, number: u8) -> u64
     requires { lent ≤ all_cells + row }
     ensures { result ≤ 1 }
 {
     let mut room = [0u8; BUFFER];
     let mut after = [0u8; BUFFER];
     fill(&mut after);
-    counted(!holds(b"limits, call ", call, xy, lent, number, &mut room, &after))
+    counted(!holds(
+        rt,
+        "limits, call ",
+        call,
+        xy,
+        lent,
+        number,
+        &mut room,
+        &after,
+    ))
 }
 
 // A triangle with just as many cells as are asked for: all see all, in both ways.
-fn sees_all(call: u64) -> u64
+fn sees_all(rt: &impl Print, call: u64) -> u64
     ensures { result ≤ 1 }
 {
     let triangle = [0i32, 0, 4, 0, 0, 4];
@@ -32,7 +41,8 @@ fn sees_all(call: u64) -> u64
     fill(&mut after);
     rows(b"333 333 333", 0, FEWEST_CORNERS, &mut after);
     counted(!holds(
-        b"limits, call ",
+        rt,
+        "limits, call ",
         call,
         &triangle,
         ALL_CELLS,
@@ -42,16 +52,15 @@ fn sees_all(call: u64) -> u64
     ))
 }
 
-pub fn all() {
+pub fn all(rt: &impl Print) {
     let square = [0i32, 0, 4, 0, 4, 4, 0, 4];
     let many = [0i32; TOO_MANY];
-    let short = keeps(1, &square, ALL_CELLS - 1, SOUND);
-    let odd = keeps(2, &square[..7], BUFFER, MISSHAPEN);
-    let two = keeps(3, &square[..4], BUFFER, MISSHAPEN);
-    let none = keeps(4, &square[..0], BUFFER, MISSHAPEN);
-    let most = keeps(5, &many, BUFFER, MISSHAPEN);
-    let least = sees_all(6);
-    io::write_all(1, b"limits: 6 calls, ");
-    io::print_decimal(1, short + odd + two + none + most + least);
-    io::write_all(1, b" differences\n");
+    let short = keeps(rt, 1, &square, ALL_CELLS - 1, SOUND);
+    let odd = keeps(rt, 2, &square[..7], BUFFER, MISSHAPEN);
+    let two = keeps(rt, 3, &square[..4], BUFFER, MISSHAPEN);
+    let none = keeps(rt, 4, &square[..0], BUFFER, MISSHAPEN);
+    let most = keeps(rt, 5, &many, BUFFER, MISSHAPEN);
+    let least = sees_all(rt, 6);
+    let differences = short + odd + two + none + most + least;
+    let _ = println!(rt; "limits: 6 calls, {differences} differences");
 }

@@ -4,6 +4,8 @@
 // A line of the file is a drawing: its corners, the coordinates, the word of its judgement, and, where it is sound, a
 // row of digits for each corner: 1 for strict sight plus 2 for a centre's. What is not of this form counts as a
 // difference and ends the file.
+#![tactic(auto)]
+
 ghost use Rattle.std.specs.Prelude.{◌≤◌, length};
 
 use recorded::decimals::word_start;
@@ -13,6 +15,7 @@ mod drawn;
 mod limited;
 
 use drawn::framed;
+use std::rt::Files;
 
 // The file has fewer bytes.
 const TEXT: usize = 131072;
@@ -24,7 +27,7 @@ struct Tally {
     differences: u64,
 }
 
-fn all(text: &[u8]) -> Tally
+fn all(rt: &impl Print, text: &[u8]) -> Tally
     requires { length text.now ≤ 131072 }
 {
     let mut drawings: u64 = 0;
@@ -33,7 +36,7 @@ fn all(text: &[u8]) -> Tally
     let mut at = word_start(text, 0);
     while at < text.len() {
         drawings += 1;
-        let ran = framed(drawings, text, at);
+        let ran = framed(rt, drawings, text, at);
         cells += ran.cells;
         differences += call::counted(!ran.right);
         let next = word_start(text, ran.next);
@@ -53,21 +56,19 @@ fn all(text: &[u8]) -> Tally
     }
 }
 
-fn file(name: &[u8]) {
+fn file(rt: &(impl Files + Print), name: &str) {
     let mut text = [0u8; TEXT];
-    let n = io::read_full(os::open_read(name), &mut text);
-    let t = all(&text[..n]);
-    io::write_all(1, name);
-    io::write_all(1, b": ");
-    io::print_decimal(1, t.drawings);
-    io::write_all(1, b" drawings, ");
-    io::print_decimal(1, t.cells);
-    io::write_all(1, b" cells told, ");
-    io::print_decimal(1, t.differences);
-    io::write_all(1, b" differences\n");
+    let n = loading::load(rt, name, &mut text);
+    let t = all(rt, &text[..n]);
+    let drawings = t.drawings;
+    let cells = t.cells;
+    let differences = t.differences;
+    let _ = println!(rt;
+        "{name}: {drawings} drawings, {cells} cells told, {differences} differences"
+    );
 }
 
-fn main() {
-    file(b"sight.txt");
-    limited::all();
+fn main(rt: HostRuntime) {
+    file(&rt, "sight.txt");
+    limited::all(&rt);
 }

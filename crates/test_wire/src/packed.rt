@@ -34,34 +34,34 @@ fn number(packed: &[u8], at: usize) -> usize
     wide(packed[at]) * 65536 + wide(packed[at + 1]) * 256 + wide(packed[at + 2])
 }
 
-fn cut_off(packed: &[u8]) -> Tried
+fn cut_off(rt: &impl Print, packed: &[u8]) -> Tried
     ensures { result.next ≡ length packed.now }
 {
-    io::write_all(1, b"a case is cut off\n");
+    let _ = println!(rt; "a case is cut off");
     Tried {
         next: packed.len(),
         same: false,
     }
 }
 
-fn case(packed: &[u8], at: usize) -> Tried
+fn case(rt: &impl Print, packed: &[u8], at: usize) -> Tried
     requires { at < length packed.now }
     ensures { (at < result.next) × (result.next ≤ length packed.now) }
 {
     if packed.len() - at < HEAD {
-        return cut_off(packed);
+        return cut_off(rt, packed);
     }
     let name = at + HEAD;
     let start = name + number(packed, at);
     let middle = start + number(packed, at + 3);
     let end = middle + number(packed, at + 6);
     if end > packed.len() {
-        return cut_off(packed);
+        return cut_off(rt, packed);
     }
     let found = tried(&packed[start..middle], &packed[middle..end]);
     if !found.same {
-        io::write_all(1, &packed[name..start]);
-        place(found, &packed[middle..end]);
+        let _ = rt.write_all(&packed[name..start]);
+        place(rt, found, &packed[middle..end]);
     }
     Tried {
         next: end,
@@ -70,12 +70,12 @@ fn case(packed: &[u8], at: usize) -> Tried
 }
 
 // Each case by itself.
-pub fn cases(packed: &[u8]) -> Tally {
+pub fn cases(rt: &impl Print, packed: &[u8]) -> Tally {
     let mut differences = 0u64;
     let mut count = 0u64;
     let mut at = 0;
     while at < packed.len() {
-        let c = case(packed, at);
+        let c = case(rt, packed, at);
         differences += counted(!c.same);
         count += 1;
         at = c.next;

@@ -17,7 +17,7 @@ pub struct Met {
 }
 
 // What was found: with chunks of which size the output differs, and after how many bytes.
-#[derive(Drop)]
+#[derive(Clone, Copy)]
 pub struct Found {
     pub same: bool,
     pub size: usize,

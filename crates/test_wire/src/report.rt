@@ -17,15 +17,13 @@ pub fn lines(text: &[u8]) -> u64 {
 }
 
 // The line of the first byte that differs.
-pub fn place(found: Found, expected: &[u8])
+pub fn place(rt: &impl Print, found: Found, expected: &[u8])
     requires { found.bytes ≤ length expected.now }
 {
     let bytes = found.bytes;
-    io::write_all(1, b" differs in chunks of ");
-    io::print_decimal(1, found.size as u64);
-    io::write_all(1, b" after line ");
-    io::print_decimal(1, lines(&expected[..bytes]));
-    io::write_all(1, b"\n");
+    let size = found.size;
+    let line = lines(&expected[..bytes]);
+    let _ = println!(rt; " differs in chunks of {size} after line {line}");
 }
 
 pub fn counted(difference: bool) -> u64
@@ -35,10 +33,6 @@ pub fn counted(difference: bool) -> u64
 }
 
 // The line of a file: how many of what were compared, and how many of them differ.
-pub fn print_counts(count: u64, what: &[u8], differences: u64) {
-    io::write_all(1, b": ");
-    io::print_decimal(1, count);
-    io::write_all(1, what);
-    io::print_decimal(1, differences);
-    io::write_all(1, b" differences\n");
+pub fn print_counts(rt: &impl Print, count: u64, what: &str, differences: u64) {
+    let _ = println!(rt; ": {count} {what}, {differences} differences");
 }

@@ -1,0 +1,33 @@
+// A file, into a buffer: what the test programs read.
+#![tactic(auto)]
+
+ghost use Rattle.std.specs.Prelude.{◌≤◌, length};
+
+use std::fs;
+use std::io::Read;
+use std::rt::Files;
+
+// Reads until the buffer is full, the input ends or a read fails. How many bytes then stand at its front.
+fn read_full(input: &mut impl Read, buffer: &mut [u8]) -> usize
+    ensures { result ≤ length buffer.new }
+{
+    let mut done = 0;
+    while done < buffer.len() {
+        let n = input.read(&mut buffer[done..]).unwrap_or(0);
+        if n == 0 {
+            return done;
+        }
+        done += n;
+    }
+    done
+}
+
+// The file of that name, as far as the buffer holds it. One that cannot be opened counts as empty.
+pub fn load(files: &impl Files, name: &str, buffer: &mut [u8]) -> usize
+    ensures { result ≤ length buffer.new }
+{
+    match fs::open(files, name) {
+        Ok(mut file) => read_full(&mut file, buffer),
+        Err(_) => 0,
+    }
+}
