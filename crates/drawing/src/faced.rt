@@ -16,8 +16,8 @@ pub struct Bends {
 
 pub fn angles(known: [Known; MOST_CORNERS], n: usize) -> Bends
     requires { n ≤ most_corners }
-    ensures marks { Marks n result.two (λ j. need_of known j ≡ 2) }
-    ensures marks_2 { Marks n result.one (λ j. need_of known j ≡ 1) }
+    ensures two { Marks n result.two (λ j. need_of known j ≡ 2) }
+    ensures one { Marks n result.one (λ j. need_of known j ≡ 1) }
 {
     let mut two = 0;
     let mut one = 0;

@@ -60,4 +60,4 @@ pub returns : goal.returns
 returns c =
     let loop = c.loop-t in
     let every : loop.t ≡ c.args.n = omega (arith, loop.invariant.0, c.loop-t-test.false) in
-    record { marks = made_all (rw every at loop.invariant.1); marks_2 = made_all (rw every at loop.invariant.2) }
+    record { two = made_all (rw every at loop.invariant.1); one = made_all (rw every at loop.invariant.2) }

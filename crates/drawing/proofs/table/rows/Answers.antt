@@ -51,7 +51,7 @@ loop-rest-init c =
         let bends = c.angles-bends.ensures in
         let i = c.loop-i.i in
         faced_marks c.args.xy.now i c.args.known c.faced.ensures c.requires.limits.2
-        (c.requires.limits.2 i c.loop-i-test.true).left_of bends.marks bends.marks_2 in
+        (c.requires.limits.2 i c.loop-i-test.true).left_of bends.two bends.one in
     let small = shifted_below c.faced.result c.loop-i.i in
     let fits : c.faced.result < 2 ^ 64 = c.faced.type_inv in
     let sound = c.requires.limits.1 in
@@ -67,7 +67,7 @@ overflow_add-j c =
         let bends = c.angles-bends.ensures in
         let i = c.loop-i.i in
         faced_marks c.args.xy.now i c.args.known c.faced.ensures c.requires.limits.2
-        (c.requires.limits.2 i c.loop-i-test.true).left_of bends.marks bends.marks_2 in
+        (c.requires.limits.2 i c.loop-i-test.true).left_of bends.two bends.one in
     let here : let d = c.args.xy.now in
         let i = c.loop-i.i in
         let j = i + mark c.loop-rest.rest in
@@ -86,7 +86,7 @@ offset_bounds-known-j c =
         let bends = c.angles-bends.ensures in
         let i = c.loop-i.i in
         faced_marks c.args.xy.now i c.args.known c.faced.ensures c.requires.limits.2
-        (c.requires.limits.2 i c.loop-i-test.true).left_of bends.marks bends.marks_2 in
+        (c.requires.limits.2 i c.loop-i-test.true).left_of bends.two bends.one in
     let here : let d = c.args.xy.now in
         let i = c.loop-i.i in
         let j = i + mark c.loop-rest.rest in
@@ -105,7 +105,7 @@ bounds-known-j c =
         let bends = c.angles-bends.ensures in
         let i = c.loop-i.i in
         faced_marks c.args.xy.now i c.args.known c.faced.ensures c.requires.limits.2
-        (c.requires.limits.2 i c.loop-i-test.true).left_of bends.marks bends.marks_2 in
+        (c.requires.limits.2 i c.loop-i-test.true).left_of bends.two bends.one in
     let here : let d = c.args.xy.now in
         let i = c.loop-i.i in
         let j = i + mark c.loop-rest.rest in
@@ -124,7 +124,7 @@ decide-requires c =
         let bends = c.angles-bends.ensures in
         let i = c.loop-i.i in
         faced_marks c.args.xy.now i c.args.known c.faced.ensures c.requires.limits.2
-        (c.requires.limits.2 i c.loop-i-test.true).left_of bends.marks bends.marks_2 in
+        (c.requires.limits.2 i c.loop-i-test.true).left_of bends.two bends.one in
     let here : let d = c.args.xy.now in
         let i = c.loop-i.i in
         let j = i + mark c.loop-rest.rest in
@@ -152,7 +152,7 @@ loop-rest-preserved c =
         let bends = c.angles-bends.ensures in
         let i = c.loop-i.i in
         faced_marks c.args.xy.now i c.args.known c.faced.ensures c.requires.limits.2
-        (c.requires.limits.2 i c.loop-i-test.true).left_of bends.marks bends.marks_2 in
+        (c.requires.limits.2 i c.loop-i-test.true).left_of bends.two bends.one in
     let here : let d = c.args.xy.now in
         let i = c.loop-i.i in
         let j = i + mark c.loop-rest.rest in
