@@ -77,6 +77,7 @@ module _ (cut : ℕ → ℕ → Type 0) (sees : ℕ → ℕ → Type 0) (all : (
       see y (inl e) = all 0 y (omega arith) (omega arith)
       see y (inr (inl e)) = all 0 y (omega arith) (omega arith)
       see y (inr (inr (inl e))) = all 0 y (omega arith) (omega arith)
+      see y (inr (inr (inr i))) = elim i [ ]
 
 module _ (first second : List ℤ) (sound : BothSound first second) (e : corners first ≡ 3) (before : List ℕ)
     (room : 5 ≤ length before) where

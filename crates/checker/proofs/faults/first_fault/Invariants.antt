@@ -1,0 +1,17 @@
+-- `checker::faults::first_fault`: the pieces before `at` have no fault, and the next one is the `place`-th.
+use mathlib.Core.Path.{refl, sym, ◌∙◌}
+use mathlib.Core.List.{[], ◌∷◌}
+use Prim.Native.Nat.{◌+◌, ◌-◌, ◌≤◌}
+use native.Mathlib.Omega.{arith}
+use lib.ListN.{length}
+use types.Run.{miss}
+use Rattle.checker.specs.Parts.{in_cells}
+use Rattle.checker.proofs.Reading.{Walk, Next, walk_none, walk_next, next_fits, next_corners}
+use Rattle.checker.proofs.Passes.{NoFault, fault_more, fault_found, fault_none}
+use Rattle.checker.proofs.faults.first_fault.Given as goal
+
+abbrev pub invariant-loop-at : goal.invariant-loop-at
+invariant-loop-at l = Walk l.list (NoFault (in_cells l.first) (in_cells l.second) l.place) l.at × (l.place ≤ l.at)
+
+abbrev pub decreases-loop-at : goal.decreases-loop-at
+decreases-loop-at l = length l.list - l.at
