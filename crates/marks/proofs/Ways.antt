@@ -135,7 +135,7 @@ module _ {first second : List ℤ} {m : Point} {before : List ℕ} where
           (longer lines (of_mark m) k (omega (arith, e)) (subst (FirstFailed lines) (sym e) o.of_pair)) refl r
 
   pub pair_refused : (c : Carried) (o : Outcome) (after : List ℕ) →
-      desk.Answers first second before (desk.result o after) →
+      desk.Answers first second before (desk.result_of o after) →
       ¬ (o.number ≡ 0) → Refusal o.number c → CarriesMark first second m before (result_of c after) c.landing
   pair_refused c o after a f r =
       let h : 0 < o.number = omega arith in
