@@ -1,96 +1,106 @@
 -- `marks::wedge::land` meets its contract.
--- after the four areas
 use mathlib.Core.Path.{◌≡◌, refl, ◌∙◌, ap}
+use mathlib.Core.List.{List}
+use Prim.Native.Nat.{ℕ, ◌<◌, ◌^◌}
 use native.Mathlib.Omega.{arith}
-use borrow.Author.Rules.{rules, sfits_of}
-use lib.IntN.{ℤ, pos, ◌+ℤ◌}
+use borrow.Author.Rules.{sfits_of}
+use lib.IntN.{ℤ, pos, nat_abs, ◌+ℤ◌}
+use lib.Signed.{mag}
 use mir.Syntax.{w64}
 use mir.Val.{of_z}
+use Rattle.outline.specs.Drawing.{Point, corner}
 use Rattle.whole.specs.Bounds.{Val, fit, par, loc, plus}
 use Rattle.drawing.proofs.Machine.{back, same_bits}
-use Rattle.marks.specs.Parts.{point, most_area}
+use Rattle.marks.specs.Parts.{point, most_area, IsCorner, IsArea, Weights}
+use Rattle.marks.specs.declared.wedge.Coordinates.{Coordinates}
 use Rattle.marks.proofs.Wedges.{Areas, area_as, area_size, flat, outside, weights, lands}
 use Rattle.marks.proofs.wedge.land.Goals as goal
 
-module _ (k : tie.After-area4) where
-  abbrev start : tie.Start
-  start = k.before.before.before.before.before.before.before
+-- the four areas, of the corners as they are read
+the_areas : (first second : List ℤ) (m : Point) (c a b : ℕ) {p q s : Coordinates} {u w t whole : ℤ} →
+    IsCorner first c p → IsCorner first a q → IsCorner first b s →
+    IsArea (point p) (point q) (point s) whole → IsArea m (point q) (point s) u →
+    IsArea m (point s) (point p) w → IsArea m (point p) (point q) t →
+    Areas first second m c a b u w t whole
+the_areas first second m c a b p q s all centre from to = record {
+  of_all = area_as p.is q.is s.is all;
+  of_centre = area_as refl q.is s.is centre;
+  of_from = area_as refl s.is p.is from;
+  of_to = area_as refl p.is q.is to;
+}
 
-  abbrev whole : ℤ
-  whole = k.before.before.before.area.result
+-- as the machine holds them
+held : {a b c : Point} (r : ℤ) → mag r < 2 ^ 63 → IsArea a b c r → Val (back r) r most_area
+held r f h = par {w = w64} (sfits_of f) (area_size h)
 
-  abbrev u : ℤ
-  u = k.before.before.area2.result
-
-  abbrev w : ℤ
-  w = k.before.area3.result
-
-  abbrev t : ℤ
-  t = k.area4.result
-
-  areas : Areas start.args.first.now start.args.second.now (point start.args.m)
-      start.args.c start.args.a start.args.b u w t whole
-  areas =
-      let corners = k.before.before.before.before in
-      let p = corners.before.before.corner.ensures.is in
-      let q = corners.before.corner2.ensures.is in
-      let s = corners.corner3.ensures.is in
-      record {
-        of-all = area_as p q s k.before.before.before.area.ensures;
-        of-centre = area_as refl q s k.before.before.area2.ensures;
-        of-from = area_as refl s p k.before.area3.ensures;
-        of-to = area_as refl p q k.area4.ensures;
-      }
-
-  -- as the machine holds them
-  whole-held : Val (back whole) whole most_area
-  whole-held = par (sfits_of k.before.before.before.area.ok) (area_size areas.of_all)
-
-  u-held : Val (back u) u most_area
-  u-held = par (sfits_of k.before.before.area2.ok) (area_size areas.of_centre)
-
-  w_held : Val (back w) w most_area
-  w_held = par (sfits_of k.before.area3.ok) (area_size areas.of_from)
-
-  t-held : Val (back t) t most_area
-  t-held = par (sfits_of k.area4.ok) (area_size areas.of_to)
-
-  sum-held : Val (back (back u +ℤ back w) +ℤ back t) (u +ℤ w +ℤ t) 24000000000000
-  sum-held = plus (loc w64 tt (plus u-held w_held)) t-held
+-- and their sum
+sum_held : {u w t : ℤ} → Val (back u) u most_area → Val (back w) w most_area → Val (back t) t most_area →
+    Val (back (back u +ℤ back w) +ℤ back t) (u +ℤ w +ℤ t) 24000000000000
+sum_held u w t = plus (loc w64 (tt {0}) (plus u w)) t
 
 pub returns-then-whole-eq0 : goal.returns-then-whole-eq0
-returns-then-whole-eq0 c = flat _ _ _ _ _ _ (areas c.before) (same_bits (whole-held c.before).is refl c.if-whole-eq0.true)
+returns-then-whole-eq0 c =
+    let areas = the_areas c.args.first.now c.args.second.now (point c.args.m) c.args.c c.args.a c.args.b
+        c.corner-p.ensures c.corner-q.ensures c.corner-s.ensures
+        c.area-whole.ensures c.area-u.ensures c.area-v.ensures c.area-t.ensures in
+    flat _ _ _ _ _ _ areas
+    (same_bits (held c.area-whole.result c.area-whole.type_inv c.area-whole.ensures).is refl c.if-whole-eq0.true)
 
 pub overflow_add-u : goal.overflow_add-u
-overflow_add-u c = fit tt (plus (u-held c.before) (w_held c.before))
+overflow_add-u c =
+    fit (tt {0}) (plus (held c.area-u.result c.area-u.type_inv c.area-u.ensures)
+    (held c.area-v.result c.area-v.type_inv c.area-v.ensures))
 
 pub overflow_add-u-2 : goal.overflow_add-u-2
-overflow_add-u-2 c = fit tt (sum-held c.before)
+overflow_add-u-2 c =
+    fit (tt {0}) (sum_held (held c.area-u.result c.area-u.type_inv c.area-u.ensures)
+    (held c.area-v.result c.area-v.type_inv c.area-v.ensures)
+    (held c.area-t.result c.area-t.type_inv c.area-t.ensures))
 
 pub returns-then-u-v : goal.returns-then-u-v
 returns-then-u-v c =
-    outside _ _ _ _ _ _ (areas c.before.before) (λ e. c.if-u-v.true (ap (of_z w64) ((sum-held c.before.before).is ∙ e)))
+    let areas = the_areas c.args.first.now c.args.second.now (point c.args.m) c.args.c c.args.a c.args.b
+        c.corner-p.ensures c.corner-q.ensures c.corner-s.ensures
+        c.area-whole.ensures c.area-u.ensures c.area-v.ensures c.area-t.ensures in
+    let sum = sum_held (held c.area-u.result c.area-u.type_inv c.area-u.ensures)
+        (held c.area-v.result c.area-v.type_inv c.area-v.ensures)
+        (held c.area-t.result c.area-t.type_inv c.area-t.ensures) in
+    outside _ _ _ _ _ _ areas (λ e. c.if-u-v.true (ap (of_z w64) (sum.is ∙ e)))
 
 pub placed-requires : goal.placed-requires
 placed-requires c =
-    let some : ¬ (whole c.before ≡ pos 0) =
-        λ e. c.if-whole-eq0.false (ap (of_z w64) e) in
-    let adds : u c.before.before +ℤ w c.before.before +ℤ t c.before.before ≡ whole c.before.before =
-        same_bits (loc w64 tt (sum-held c.before.before)).is (whole-held c.before.before).is c.if-u-v.false in
-    let s = start c.before.before in
-    let h = weights _ _ _ _ _ _ (areas c.before.before) some adds in
-    let pair = s.pre.0.0 in
-    let below = s.pre.1 in record { weights = (rw ((u-held c.before.before).is, (w_held c.before.before).is, (t-held c.before.before).is, (whole-held c.before.before).is) h, pair.second_in); c_bound = (
+    let areas = the_areas c.args.first.now c.args.second.now (point c.args.m) c.args.c c.args.a c.args.b
+        c.corner-p.ensures c.corner-q.ensures c.corner-s.ensures
+        c.area-whole.ensures c.area-u.ensures c.area-v.ensures c.area-t.ensures in
+    let whole = held c.area-whole.result c.area-whole.type_inv c.area-whole.ensures in
+    let u = held c.area-u.result c.area-u.type_inv c.area-u.ensures in
+    let w = held c.area-v.result c.area-v.type_inv c.area-v.ensures in
+    let t = held c.area-t.result c.area-t.type_inv c.area-t.ensures in
+    let some : ¬ (c.area-whole.result ≡ pos 0) = λ e. c.if-whole-eq0.false (ap (of_z w64) e) in
+    let adds : c.area-u.result +ℤ c.area-v.result +ℤ c.area-t.result ≡ c.area-whole.result =
+        same_bits (loc w64 (tt {0}) (sum_held u w t)).is whole.is c.if-u-v.false in
+    let h = weights _ _ _ _ _ _ areas some adds in
+    let pair = c.requires.pair.0 in
+    let below = c.requires.c_bound in
+    record {
+      weights = (rw (u.is, w.is, t.is, whole.is) h, pair.second_in);
+      c_bound = (
         omega (arith, pair.alike, below.0, below.1, below.2),
         omega (arith, pair.alike, below.0, below.1, below.2),
         omega (arith, pair.alike, below.0, below.1, below.2),
-      ) }
+      );
+    }
 
 pub returns : goal.returns
 returns c =
-    let some : ¬ (whole c.before ≡ pos 0) =
-        λ e. c.if-whole-eq0.false (ap (of_z w64) e) in
-    let adds : u c.before.before +ℤ w c.before.before +ℤ t c.before.before ≡ whole c.before.before =
-        same_bits (loc w64 tt (sum-held c.before.before)).is (whole-held c.before.before).is c.if-u-v.false in
-    lands _ _ _ _ _ _ (areas c.before.before.before) some adds c.placed.result
-    (rw ((u-held c.before.before.before).is, (w_held c.before.before.before).is, (t-held c.before.before.before).is, (whole-held c.before.before.before).is) at c.placed.ensures)
+    let areas = the_areas c.args.first.now c.args.second.now (point c.args.m) c.args.c c.args.a c.args.b
+        c.corner-p.ensures c.corner-q.ensures c.corner-s.ensures
+        c.area-whole.ensures c.area-u.ensures c.area-v.ensures c.area-t.ensures in
+    let whole = held c.area-whole.result c.area-whole.type_inv c.area-whole.ensures in
+    let u = held c.area-u.result c.area-u.type_inv c.area-u.ensures in
+    let w = held c.area-v.result c.area-v.type_inv c.area-v.ensures in
+    let t = held c.area-t.result c.area-t.type_inv c.area-t.ensures in
+    let some : ¬ (c.area-whole.result ≡ pos 0) = λ e. c.if-whole-eq0.false (ap (of_z w64) e) in
+    let adds : c.area-u.result +ℤ c.area-v.result +ℤ c.area-t.result ≡ c.area-whole.result =
+        same_bits (loc w64 (tt {0}) (sum_held u w t)).is whole.is c.if-u-v.false in
+    lands _ _ _ _ _ _ areas some adds c.placed.result (rw (u.is, w.is, t.is, whole.is) at c.placed.ensures)
