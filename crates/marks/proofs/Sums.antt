@@ -7,7 +7,6 @@ use native.Mathlib.Omega.{arith}
 use native.Mathlib.Nat.{le_trans, not-suc-le-zero, mul-le-mul_left}
 use lib.Dec.{lt→ltb, ltb→lt}
 use lib.IntN.{ℤ, pos, negsuc, neg_ℤ, nat_abs, ◌+ℤ◌, ◌-ℤ◌, ◌*ℤ◌}
-use lib.Ieee.{Float}
 use lib.Signed.{◌≤ℤ◌, ◌<ℤ◌, lt_z_yes}
 use Rattle.limits.specs.Limits.{furthest}
 use Rattle.whole.specs.Ring.{v, con, ◌:-◌, neg, ring}

@@ -1,6 +1,6 @@
 -- A point is in or on three corners that make an area exactly when its areas with two of them each add up to theirs.
 -- Areas have no sign, so the corners may turn either way.
-use Rattle.std.specs.Prelude.{◌≡◌, refl, ◌↔◌, List, [], ◌∷◌, ℕ, zero, suc, ◌+◌, ◌<◌, ℤ, pos, negsuc, neg_ℤ, nat_abs, ◌+ℤ◌, ◌-ℤ◌, ◌*ℤ◌}
+use Rattle.std.specs.Prelude.{◌≡◌, refl, ◌↔◌, List, [], ◌∷◌, zero, suc, ◌+◌, ◌<◌, ℤ, pos, negsuc, neg_ℤ, nat_abs, ◌+ℤ◌, ◌-ℤ◌, ◌*ℤ◌}
 use Rattle.std.proofs.Common.{sym, ◌∙◌, ap, ap₂, subst, arith}
 use Rattle.whole.specs.Ring.{E, v, con, ◌:+◌, ◌:-◌, ◌:*◌, neg, ring, ring1, by_ring}
 use Rattle.whole.specs.Order.{Nonneg, Positive, nonneg_add, nonneg_pos, nonneg_zero, positive_nonneg}

@@ -23,7 +23,7 @@ answered {first} {second} {before} {after} o a e =
 pub returns-then-not-in_range : goal.returns-then-not-in_range
 returns-then-not-in_range c =
     let asks : Tells c.in_range.result (MarkInRange (mark c.args.x c.args.y)) =
-        let f = c.ranges in rw (to_z-of_z f.x, to_z-of_z f.y) at c.in_range.ensures in
+    let f = c.ranges in rw (to_z-of_z f.x, to_z-of_z f.y) at c.in_range.ensures in
     out_of_range c.refused.result _ (if_no asks c.if-not-in_range.true) c.number.ensures c.refused.ensures
 
 pub returns-then-cut-ne0 : goal.returns-then-cut-ne0

@@ -3,8 +3,7 @@
 use mathlib.Core.Path.{◌≡◌, sym, ap, ◌∙◌}
 use Prim.Native.Nat.{ℕ}
 use lib.IntN.{ℤ}
-use borrow.Author.Rules.{rules, sfits_of}
-use mir.Facts.{to_z-of_z}
+use borrow.Author.Rules.{rules}
 use Rattle.marks.specs.Flat.{flat_of}
 use Rattle.marks.specs.declared.Axis.{Axis}
 use Rattle.marks.specs.declared.Landing.{Landing}

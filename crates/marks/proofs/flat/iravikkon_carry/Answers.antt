@@ -1,5 +1,4 @@
 -- `marks::flat::iravikkon_carry` meets its contract.
-use borrow.Author.Rules.{rules}
 use mir.Facts.{to_z-of_z}
 use Rattle.marks.proofs.flat.iravikkon_carry.Goals as goal
 

@@ -1,6 +1,6 @@
 -- `marks::place::placed` meets its contract.
 use mathlib.Core.Path.{ap}
-use borrow.Author.Rules.{rules, sfits_of}
+use borrow.Author.Rules.{sfits_of}
 use mir.Facts.{to_z-of_z}
 use Rattle.outline.specs.Drawing.{Point}
 use Rattle.drawing.proofs.Machine.{the_x, the_y}

@@ -1,12 +1,8 @@
 -- `marks::walk::find` meets its contract: the pieces before place `at` are passed.
-use mathlib.Core.Path.{sym, ◌∙◌}
-use Prim.Native.Nat.{◌+◌, ◌-◌, ◌≤◌}
-use native.Mathlib.Omega.{arith}
+use Prim.Native.Nat.{◌-◌, ◌≤◌}
 use lib.ListN.{length}
-use Rattle.marks.specs.Parts.{point, Piece}
-use Rattle.outline.specs.Drawing.{corners}
-use Rattle.marks.proofs.Answers.{PassedTo, passed-no-piece, part-fits, part-piece}
-use Rattle.marks.proofs.Answers.{piece-hit, piece-missed, pieces-passed}
+use Rattle.marks.specs.Parts.{point}
+use Rattle.marks.proofs.Answers.{PassedTo}
 use Rattle.marks.proofs.walk.find.Given as goal
 
 abbrev pub invariant-loop-at : goal.invariant-loop-at

@@ -1,6 +1,5 @@
 -- `marks::walk::following` meets its contract.
 use mathlib.Core.Path.{sym, ◌∙◌}
-use borrow.Author.Rules.{rules}
 use Rattle.marks.proofs.Pieces.{follow_last, follow_inner}
 use Rattle.marks.proofs.walk.following.Goals as goal
 

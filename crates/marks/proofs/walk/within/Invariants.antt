@@ -1,11 +1,9 @@
 -- `marks::walk::within` meets its contract: the wedges before place t are passed.
-use mathlib.Core.Path.{◌≡◌, sym, ◌∙◌}
+use mathlib.Core.Path.{◌≡◌}
 use Prim.Native.Nat.{◌-◌, ◌≤◌}
-use native.Mathlib.Omega.{arith}
 use lib.ListN.{length, get_or}
 use Rattle.marks.specs.Parts.{point}
-use Rattle.marks.proofs.Pieces.{Passed, passed_none, passed_more, passed_hit}
-use Rattle.marks.proofs.Pieces.{passed_all, follow_below, below_as}
+use Rattle.marks.proofs.Pieces.{Passed}
 use Rattle.marks.proofs.walk.within.Given as goal
 
 abbrev pub invariant-loop-t : goal.invariant-loop-t

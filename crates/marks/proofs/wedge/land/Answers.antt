@@ -4,14 +4,14 @@ use mathlib.Core.List.{List}
 use Prim.Native.Nat.{ℕ, ◌<◌, ◌^◌}
 use native.Mathlib.Omega.{arith}
 use borrow.Author.Rules.{sfits_of}
-use lib.IntN.{ℤ, pos, nat_abs, ◌+ℤ◌}
+use lib.IntN.{ℤ, pos, ◌+ℤ◌}
 use lib.Signed.{mag}
 use mir.Syntax.{w64}
 use mir.Val.{of_z}
-use Rattle.outline.specs.Drawing.{Point, corner}
+use Rattle.outline.specs.Drawing.{Point}
 use Rattle.whole.specs.Bounds.{Val, fit, par, loc, plus}
 use Rattle.drawing.proofs.Machine.{back, same_bits}
-use Rattle.marks.specs.Parts.{point, most_area, IsCorner, IsArea, Weights}
+use Rattle.marks.specs.Parts.{point, most_area, IsCorner, IsArea}
 use Rattle.marks.specs.declared.wedge.Coordinates.{Coordinates}
 use Rattle.marks.proofs.Wedges.{Areas, area_as, area_size, flat, outside, weights, lands}
 use Rattle.marks.proofs.wedge.land.Goals as goal
@@ -41,8 +41,8 @@ sum_held u w t = plus (loc w64 (tt {0}) (plus u w)) t
 pub returns-then-whole-eq0 : goal.returns-then-whole-eq0
 returns-then-whole-eq0 c =
     let areas = the_areas c.args.first.now c.args.second.now (point c.args.m) c.args.c c.args.a c.args.b
-        c.corner-p.ensures c.corner-q.ensures c.corner-s.ensures
-        c.area-whole.ensures c.area-u.ensures c.area-v.ensures c.area-t.ensures in
+    c.corner-p.ensures c.corner-q.ensures c.corner-s.ensures
+    c.area-whole.ensures c.area-u.ensures c.area-v.ensures c.area-t.ensures in
     flat _ _ _ _ _ _ areas
     (same_bits (held c.area-whole.result c.area-whole.type_inv c.area-whole.ensures).is refl c.if-whole-eq0.true)
 
@@ -60,25 +60,25 @@ overflow_add-u-2 c =
 pub returns-then-u-v : goal.returns-then-u-v
 returns-then-u-v c =
     let areas = the_areas c.args.first.now c.args.second.now (point c.args.m) c.args.c c.args.a c.args.b
-        c.corner-p.ensures c.corner-q.ensures c.corner-s.ensures
-        c.area-whole.ensures c.area-u.ensures c.area-v.ensures c.area-t.ensures in
+    c.corner-p.ensures c.corner-q.ensures c.corner-s.ensures
+    c.area-whole.ensures c.area-u.ensures c.area-v.ensures c.area-t.ensures in
     let sum = sum_held (held c.area-u.result c.area-u.type_inv c.area-u.ensures)
-        (held c.area-v.result c.area-v.type_inv c.area-v.ensures)
-        (held c.area-t.result c.area-t.type_inv c.area-t.ensures) in
+    (held c.area-v.result c.area-v.type_inv c.area-v.ensures)
+    (held c.area-t.result c.area-t.type_inv c.area-t.ensures) in
     outside _ _ _ _ _ _ areas (λ e. c.if-u-v.true (ap (of_z w64) (sum.is ∙ e)))
 
 pub placed-requires : goal.placed-requires
 placed-requires c =
     let areas = the_areas c.args.first.now c.args.second.now (point c.args.m) c.args.c c.args.a c.args.b
-        c.corner-p.ensures c.corner-q.ensures c.corner-s.ensures
-        c.area-whole.ensures c.area-u.ensures c.area-v.ensures c.area-t.ensures in
+    c.corner-p.ensures c.corner-q.ensures c.corner-s.ensures
+    c.area-whole.ensures c.area-u.ensures c.area-v.ensures c.area-t.ensures in
     let whole = held c.area-whole.result c.area-whole.type_inv c.area-whole.ensures in
     let u = held c.area-u.result c.area-u.type_inv c.area-u.ensures in
     let w = held c.area-v.result c.area-v.type_inv c.area-v.ensures in
     let t = held c.area-t.result c.area-t.type_inv c.area-t.ensures in
     let some : ¬ (c.area-whole.result ≡ pos 0) = λ e. c.if-whole-eq0.false (ap (of_z w64) e) in
     let adds : c.area-u.result +ℤ c.area-v.result +ℤ c.area-t.result ≡ c.area-whole.result =
-        same_bits (loc w64 (tt {0}) (sum_held u w t)).is whole.is c.if-u-v.false in
+    same_bits (loc w64 (tt {0}) (sum_held u w t)).is whole.is c.if-u-v.false in
     let h = weights _ _ _ _ _ _ areas some adds in
     let pair = c.requires.pair.0 in
     let below = c.requires.c_bound in
@@ -94,13 +94,13 @@ placed-requires c =
 pub returns : goal.returns
 returns c =
     let areas = the_areas c.args.first.now c.args.second.now (point c.args.m) c.args.c c.args.a c.args.b
-        c.corner-p.ensures c.corner-q.ensures c.corner-s.ensures
-        c.area-whole.ensures c.area-u.ensures c.area-v.ensures c.area-t.ensures in
+    c.corner-p.ensures c.corner-q.ensures c.corner-s.ensures
+    c.area-whole.ensures c.area-u.ensures c.area-v.ensures c.area-t.ensures in
     let whole = held c.area-whole.result c.area-whole.type_inv c.area-whole.ensures in
     let u = held c.area-u.result c.area-u.type_inv c.area-u.ensures in
     let w = held c.area-v.result c.area-v.type_inv c.area-v.ensures in
     let t = held c.area-t.result c.area-t.type_inv c.area-t.ensures in
     let some : ¬ (c.area-whole.result ≡ pos 0) = λ e. c.if-whole-eq0.false (ap (of_z w64) e) in
     let adds : c.area-u.result +ℤ c.area-v.result +ℤ c.area-t.result ≡ c.area-whole.result =
-        same_bits (loc w64 (tt {0}) (sum_held u w t)).is whole.is c.if-u-v.false in
+    same_bits (loc w64 (tt {0}) (sum_held u w t)).is whole.is c.if-u-v.false in
     lands _ _ _ _ _ _ areas some adds c.placed.result (rw (u.is, w.is, t.is, whole.is) at c.placed.ensures)
