@@ -1,5 +1,5 @@
 -- Neighbours round a piece are the two ends of a step, or the first and the last corner.
-use mathlib.Core.Path.{◌≡◌, refl, sym, ap, ◌∙◌}
+use mathlib.Core.Path.{◌≡◌, refl, sym, subst}
 use mathlib.Core.Logic.{◌⊎◌, inl, inr}
 use mathlib.Core.List.{List, [], ◌∷◌}
 use Prim.Native.Nat.{ℕ, ◌≤◌, ◌<◌}
@@ -87,7 +87,7 @@ closing_outside a (b ∷ s) r le =
     let f = rise_from a p.0 (b ∷ s) p.1 in
     record {
       from = inl refl;
-      to = rw (e) (rise_last a p.0 (b ∷ s) p.1);
+      to = subst (λ (z : ℕ). In z (a ∷ b ∷ s)) (sym e) (rise_last a p.0 (b ∷ s) p.1);
       rises = omega (arith, e, f b (inr (inl refl)), r.0 b (inl refl));
       outside = λ z i. (omega (arith, f z i), omega (arith, e, f z i));
     }

@@ -52,7 +52,7 @@ module _ {bytes o p c t : List ℕ} {at : ℕ} (w : Walk bytes (Marked o p c t) 
 abbrev pub Fitting : List ℕ → List ℕ → List Entry → List Entry → Type 0
 Fitting c t l rest = all_fit c t (corner_lists l) ≡ all_fit c t (corner_lists rest)
 
-module _ {bytes c t : List ℕ} {at : ℕ} (w : Walk bytes (Fitting c t) at) where
+module _ {bytes : List ℕ} (c t : List ℕ) {at : ℕ} (w : Walk bytes (Fitting c t) at) where
   module _ (n : Next w) {k : ℕ} (q : k ≡ get_or bytes at 0) {r : Bool} (h : r ≡ fits c t (part bytes at k)) where
     here_fits : {b : Bool} → r ≡ b → fits c t n.e.corners ≡ b
     here_fits f = ap (fits c t) (sym (next_part n q)) ∙ sym h ∙ f

@@ -79,7 +79,7 @@ regroup = (
   ⊎_elim (λ a. inl (inl a)) (⊎_elim (λ b. inl (inr b)) inr),
 )
 
-holds_along : {t : List ℕ} {P : Lines} (a : ℕ) (s : List ℕ) → ((x : ℕ) → In x (a ∷ s) → x < row) → Holds t P →
+holds_along : (a : ℕ) (s : List ℕ) → ((x : ℕ) → In x (a ∷ s) → x < row) → {t : List ℕ} {P : Lines} → Holds t P →
     Holds (step_on a s t) (λ x y. P x y ⊎ Step a s x y)
 holds_along a [] small h = holds_same h (λ x y. no_more (λ k. k))
 holds_along a (b ∷ s) small h =

@@ -16,14 +16,14 @@ of_bytes-requires c =
     let s = c.sight-number.ensures in
     let zero = c.if-number-ne0.false in
     let p = c.requires in
-    let a = (sound s.0 zero).alike in (
+    let a = (sound s.checks zero).alike in (
       a.enough,
       a.few,
-      first_cells s.0 zero p.0 p.1 s.1.0 s.1.1,
-      second_cells s.0 zero p.0 p.1 s.1.0 s.1.1,
+      first_cells s.checks zero p.0 p.1 s.first_told s.second_told,
+      second_cells s.checks zero p.0 p.1 s.first_told s.second_told,
     )
 
 pub returns : goal.returns
 returns c =
     let s = c.sight-number.ensures in
-    by_cells s.0 c.if-number-ne0.false c.requires.0 c.requires.1 s.1.0 s.1.1 c.of_bytes.ensures
+    by_cells s.checks c.if-number-ne0.false c.requires.0 c.requires.1 s.first_told s.second_told c.of_bytes.ensures

@@ -1,6 +1,7 @@
 -- `checker::faults::centre_sees`: all is decided by the corners from i on.
 use mathlib.Core.Path.{◌≡◌, refl, sym, ◌∙◌}
-use Prim.Native.Nat.{◌-◌, ◌<◌}
+use mathlib.Core.List.{List}
+use Prim.Native.Nat.{ℕ}
 use borrow.Author.Rules.{rules}
 use borrow.Author.Tests.{not-true, not-false}
 use lib.ListN.{drop}
@@ -15,11 +16,9 @@ use Rattle.checker.proofs.Tests.{told_by, centre_tells}
 use Rattle.checker.proofs.faults.centre_sees.Goals as goal
 
 -- what the test tells of the piece
-abbrev tests : (s : tie.Start invariant-loop decreases-loop) →
-    let a = s.args in
-    Tells (all (centre_sees a.sight.now a.centre) a.corners.now)
-    (CentreSeesAll (in_cells a.sight.now) (piece a.centre a.corners.now))
-tests s = let a = s.args in centre_tells a.sight.now (piece a.centre a.corners.now)
+tests : (sight corners : List ℕ) (centre : ℕ) →
+    Tells (all (centre_sees sight centre) corners) (CentreSeesAll (in_cells sight) (piece centre corners))
+tests sight corners centre = centre_tells sight (piece centre corners)
 
 pub as_centre-requires : goal.as_centre-requires
 as_centre-requires c =
@@ -31,7 +30,7 @@ returns-then-not-as_centre c =
     told_by
     (all_fails _ _ c.wide.ensures c.loop-i-test.true c.loop-i.invariant
     (sym c.as_centre.ensures ∙ c.if-not-as_centre.true))
-    (tests c.before.before.before.before.before.before.before.before)
+    (tests c.args.sight.now c.args.corners.now c.args.centre)
 
 pub loop-i-preserved : goal.loop-i-preserved
 loop-i-preserved c =
@@ -39,4 +38,4 @@ loop-i-preserved c =
     (sym c.as_centre.ensures ∙ c.if-not-as_centre.false)
 
 pub returns : goal.returns
-returns c = told_by (all_end _ _ c.loop-i-test.false c.loop-i.invariant) (tests c.before.before.before.before)
+returns c = told_by (all_end _ _ c.loop-i-test.false c.loop-i.invariant) (tests c.args.sight.now c.args.corners.now c.args.centre)

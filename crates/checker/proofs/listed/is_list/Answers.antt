@@ -23,7 +23,7 @@ pub overflow_add-at : goal.overflow_add-at
 overflow_add-at c =
     let piece : PieceAt c.args.n c.args.list.now c.loop-at.at =
         if_yes c.is_piece.ensures c.if-not-is_piece.false in
-    omega (arith, piece.ranges)
+    omega (arith, piece.fits)
 
 pub bounds-list-at : goal.bounds-list-at
 bounds-list-at c = c.loop-at-test.true

@@ -8,13 +8,6 @@ use Rattle.checker.proofs.Reading.{Walk, Next, walk_none, walk_next, next_fits, 
 use Rattle.checker.proofs.Passes.{Marked, marked_more, marked_fails, marked_end}
 use Rattle.checker.proofs.nested.mark.Goals as goal
 
--- after the count of a piece is read: the piece, and that it fits
-next : (k : tie.After-wide invariant-loop decreases-loop) → Next k.before.before.before.loop.invariant.0
-next k = walk_next k.before.before.before.loop.invariant.0 k.before.before.loop-test.true
-
-fits : (k : tie.After-wide invariant-loop decreases-loop) → k.before.before.before.loop.at + 2 + k.wide.result ≤ length k.before.before.before.before.before.before.before.args.list.now
-fits k = next_fits (next k) k.wide.ensures
-
 pub loop-at-init : goal.loop-at-init
 loop-at-init c = (walk_none _ c.requires.0 (λ l c t r m. m), refl, refl)
 
@@ -25,13 +18,21 @@ pub bounds-list-at : goal.bounds-list-at
 bounds-list-at c = omega (arith, c.loop-at-test.true)
 
 pub overflow_add-to : goal.overflow_add-to
-overflow_add-to c = omega (arith, fits c)
+overflow_add-to c =
+    let n = walk_next c.loop-at.invariant.0 c.loop-at-test.true in
+    omega (arith, next_fits n c.wide.ensures)
 
 pub mark_piece-requires : goal.mark_piece-requires
 mark_piece-requires c =
+    let n = walk_next c.loop-at.invariant.0 c.loop-at-test.true in
     let loop = c.loop-at.invariant in
     let s = c.requires in
-    (next_corners (next c.before.before.before) c.wide.ensures, omega (arith, loop.1, s.1), omega (arith, loop.2, s.2))
+    (next_corners n c.wide.ensures, omega (arith, loop.1, s.1), omega (arith, loop.2, s.2))
+
+pub slice_bounds-mark_piece-end : goal.slice_bounds-mark_piece-end
+slice_bounds-mark_piece-end c =
+    let n = walk_next c.loop-at.invariant.0 c.loop-at-test.true in
+    omega (arith, next_fits n c.wide.ensures)
 
 pub shape_of-closings-then-not-mark_piece : goal.shape_of-closings-then-not-mark_piece
 shape_of-closings-then-not-mark_piece c = c.mark_piece.ensures.sizes.0 ∙ c.loop-at.invariant.1
@@ -41,15 +42,19 @@ shape_of-steps-then-not-mark_piece c = c.mark_piece.ensures.sizes.1 ∙ c.loop-a
 
 pub returns-then-not-mark_piece : goal.returns-then-not-mark_piece
 returns-then-not-mark_piece c =
-    marked_fails c.loop-at.invariant.0 (next c.before.before.before.before.before.before.before.before.before) c.wide.ensures c.mark_piece.ensures c.if-not-mark_piece.true
+    let n = walk_next c.loop-at.invariant.0 c.loop-at-test.true in
+    marked_fails c.loop-at.invariant.0 n c.wide.ensures c.mark_piece.ensures c.if-not-mark_piece.true
 
 pub loop-at-smaller : goal.loop-at-smaller
-loop-at-smaller c = omega (arith, fits c.before.before.before.before.before.before.before.before.before)
+loop-at-smaller c =
+    let n = walk_next c.loop-at.invariant.0 c.loop-at-test.true in
+    omega (arith, next_fits n c.wide.ensures)
 
 pub loop-at-preserved : goal.loop-at-preserved
 loop-at-preserved c =
+    let n = walk_next c.loop-at.invariant.0 c.loop-at-test.true in
     let m = c.mark_piece.ensures in (
-      marked_more c.loop-at.invariant.0 (next c.before.before.before.before.before.before.before.before.before) c.wide.ensures m c.if-not-mark_piece.false,
+      marked_more c.loop-at.invariant.0 n c.wide.ensures m c.if-not-mark_piece.false,
       m.sizes.0 ∙ c.loop-at.invariant.1,
       m.sizes.1 ∙ c.loop-at.invariant.2,
     )

@@ -27,5 +27,5 @@ returns c =
       free = λ _. sym (ap (λ (k : ℕ). get_or a.closings.now k 0) q) ∙ c.if-closings-line-ne0.false;
       closes = λ _. ap (λ (k : ℕ). set a.closings.now k 1) q;
       steps = λ _. c.mark_steps.ensures;
-      sizes = (length-set a.closings.now _ 1, c.mark_steps.auto.1.0);
+      sizes = (length-set a.closings.now _ 1, c.mark_steps.auto.steps);
     }

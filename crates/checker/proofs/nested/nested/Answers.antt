@@ -20,7 +20,7 @@ returns-then-not-mark c =
 
 pub bounds-closings-n : goal.bounds-closings-n
 bounds-closings-n c =
-    let s = c.requires in omega (arith, s.fewest_corners_le_n.1, zero_cells s.closings_value.0, c.mark.auto.1.0)
+    let s = c.requires in omega (arith, s.fewest_corners_le_n.1, zero_cells s.closings_value.0, c.mark.auto.closings)
 
 pub returns-then-closings-n-eq0 : goal.returns-then-closings-n-eq0
 returns-then-closings-n-eq0 c =
@@ -29,15 +29,15 @@ returns-then-closings-n-eq0 c =
 
 pub bounds-steps-n : goal.bounds-steps-n
 bounds-steps-n c =
-    let s = c.requires in omega (arith, s.fewest_corners_le_n.1, zero_cells s.closings_value.1, c.mark.auto.1.1.0)
+    let s = c.requires in omega (arith, s.fewest_corners_le_n.1, zero_cells s.closings_value.1, c.mark.auto.steps)
 
 pub all_fit-requires : goal.all_fit-requires
 all_fit-requires c =
     let s = c.requires in
-    let kept = c.mark.auto.1 in (
+    let kept = c.mark.auto in (
       readable s.fewest_corners_le_n.1 s.fewest_corners_le_n.2,
-      omega (arith, zero_cells s.closings_value.0, kept.0),
-      omega (arith, zero_cells s.closings_value.1, kept.1.0, length-set c.mark.new.steps (c.args.n - 1) 1),
+      omega (arith, zero_cells s.closings_value.0, kept.closings),
+      omega (arith, zero_cells s.closings_value.1, kept.steps, length-set c.mark.new.steps (c.args.n - 1) 1),
     )
 
 pub returns : goal.returns
