@@ -12,7 +12,8 @@ use Rattle.outline.specs.Drawing.{corners}
 use Rattle.outline.specs.Tells.{if_yes, if_no}
 use Rattle.drawing.specs.Sight.{Seen}
 use Rattle.pair.specs.Pair.{lines, Checks, FirstTold, SecondTold}
-use Rattle.pair.specs.Passing.{SoundPair, equally_many, pair_passes}
+use Rattle.pair.specs.Passing.{SoundPair, equally_many}
+use Rattle.pair.proofs.Passing.{pair_passes}
 use Rattle.rules.specs.Lists.{In}
 use Rattle.rules.specs.Refusals.{among}
 use Rattle.checker.specs.Checks.{says, Entry, laid, Listed, IsList, Sight, sight_in, FirstFailed, of_pieces}

@@ -4,7 +4,8 @@ use Rattle.std.proofs.Common.{sym, ap, ◌∙◌, subst, inl, arith, take_at}
 use Rattle.limits.specs.Limits.{Roomy}
 use Rattle.outline.specs.Drawing.{corners}
 use Rattle.pair.specs.Pair.{Alike, of_drawings}
-use Rattle.pair.specs.Passing.{SoundPair, sound_pair}
+use Rattle.pair.specs.Passing.{SoundPair}
+use Rattle.pair.proofs.Passing.{sound_pair}
 use Rattle.rules.specs.Lists.{In, Distinct}
 use Rattle.rules.specs.Cutting.{Pairs, Region, pieces}
 use Rattle.rules.specs.Centre.{Lowest, lowest_one, size}

@@ -5,7 +5,7 @@ use Rattle.std.proofs.Common.{sym, ap, ◌∙◌, subst, inl, inr, arith}
 use Rattle.std.proofs.Math.Logic.{by_cases}
 use Rattle.std.proofs.Math.Decide.{ℕ_discrete}
 use Rattle.outline.specs.Drawing.{corners}
-use Rattle.pair.specs.Unique.{check_unique as number_unique}
+use Rattle.pair.proofs.Unique.{check_unique as number_unique}
 use Rattle.pair.specs.declared.Which.{Which}
 use Rattle.pair.specs.declared.Which.TheVariants.{First, Second}
 use Rattle.checker.specs.Checks.{which_number, says, verdict, Entry, laid, Sight, sight_in}

@@ -5,7 +5,8 @@ use Rattle.std.proofs.Math.Logic.{by_cases}
 use Rattle.std.proofs.Math.Decide.{ℕ_discrete}
 use Rattle.outline.specs.Drawing.{corners}
 use Rattle.pair.specs.Pair.{of_drawings, lines, Checks}
-use Rattle.pair.specs.Passing.{SoundPair, equally_many, drawings_hold, pair_passes}
+use Rattle.pair.specs.Passing.{SoundPair, equally_many}
+use Rattle.pair.proofs.Passing.{drawings_hold, pair_passes}
 use Rattle.rules.specs.Lists.{In}
 use Rattle.rules.specs.Cutting.{Pairs, Near, Region}
 use Rattle.rules.specs.Centre.{Centre, HasCentre}

@@ -9,7 +9,7 @@ use Rattle.std.proofs.Math.Decide.{dec_lt}
 use Rattle.limits.specs.Limits.{Roomy}
 use Rattle.outline.specs.Drawing.{corners, Sound}
 use Rattle.pair.specs.Pair.{Alike, of_drawing}
-use Rattle.pair.specs.Passing.{sound_hold}
+use Rattle.pair.proofs.Passing.{sound_hold}
 use Rattle.rules.specs.Refusals.{Line, line, FirstFailed, SameAsked, end, same, same_failed}
 use Rattle.rules.specs.Result.{Result}
 use Rattle.desk.specs.Answer.{of_cutting, asked, Answers}

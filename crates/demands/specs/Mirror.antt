@@ -8,7 +8,8 @@ use Rattle.outline.specs.Drawing.{corners, Shaped, Sound}
 use Rattle.outline.specs.Tells.{Tells, as_well, and_tells, eq_tells, most_tells}
 use Rattle.outline.specs.Mirror.{in_range_test, in_range_tells, simple_test, simple_tells, area_test, area_tells}
 use Rattle.pair.specs.Pair.{Alike, of_drawing}
-use Rattle.pair.specs.Passing.{first_shaped, second_shaped, sound_pair}
+use Rattle.pair.specs.Passing.{first_shaped, second_shaped}
+use Rattle.pair.proofs.Passing.{sound_pair}
 use Rattle.rules.specs.Refusals.{Line, FirstFailed, all_hold}
 use Rattle.rules.specs.Cutting.{Tree, told}
 use Rattle.rules.specs.Uses.{uses}

@@ -12,7 +12,8 @@ use Rattle.limits.specs.Limits.{Roomy}
 use Rattle.outline.specs.Drawing.{corners, Sound, Sees}
 use Rattle.outline.specs.InOrOn.{CentreSees}
 use Rattle.pair.specs.Pair.{Alike, of_drawings}
-use Rattle.pair.specs.Passing.{sound_pair, drawings_hold, equally_many}
+use Rattle.pair.specs.Passing.{equally_many}
+use Rattle.pair.proofs.Passing.{sound_pair, drawings_hold}
 use Rattle.rules.specs.Lists.{In, rise_in}
 use Rattle.rules.specs.Cutting.{Pairs, pieces, run, Less}
 use Rattle.rules.specs.Centre.{HasCentre}

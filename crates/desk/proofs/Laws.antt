@@ -18,7 +18,8 @@ use Rattle.drawing.specs.Sight.{Cell, Seen, Told, Sight}
 use Rattle.drawing.specs.declared.Judged.{Judged}
 use Rattle.outline.specs.Seeing.{sees_mutual}
 use Rattle.pair.specs.Pair.{Alike, of_drawings, lines, Checks, FirstTold, SecondTold}
-use Rattle.pair.specs.Passing.{SoundPair, equally_many, drawings_hold, pair_passes}
+use Rattle.pair.specs.Passing.{SoundPair, equally_many}
+use Rattle.pair.proofs.Passing.{drawings_hold, pair_passes}
 use Rattle.rules.specs.Cutting.{Inner}
 use Rattle.rules.specs.Cells as cells
 use Rattle.rules.specs.Refusals.{line, FirstFailed, Hold, longer, put_in, passed}

@@ -12,7 +12,8 @@ use Rattle.limits.specs.Limits.{furthest}
 use Rattle.whole.specs.Bounds.{near_of}
 use Rattle.outline.specs.Drawing.{Point, corners}
 use Rattle.drawing.specs.Parts.{Close}
-use Rattle.pair.specs.Passing.{SoundPair, sound_pair, equally_many}
+use Rattle.pair.specs.Passing.{SoundPair, equally_many}
+use Rattle.pair.proofs.Passing.{sound_pair}
 use Rattle.rules.specs.Lists.{In}
 use Rattle.rules.specs.Cutting.{pieces}
 use Rattle.rules.specs.Centre.{Layout}

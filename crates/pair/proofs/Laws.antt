@@ -12,7 +12,8 @@ use Rattle.drawing.specs.Sight.{Sight}
 use Rattle.drawing.specs.declared.Judged.{Judged}
 use Rattle.rules.specs.Refusals.{FirstFailed, all_hold, longer, put_in}
 use Rattle.pair.specs.Pair.{Alike, of_drawing, Checks, FirstTold, SecondTold}
-use Rattle.pair.specs.Passing.{judged, first_shaped, second_shaped}
+use Rattle.pair.specs.Passing.{first_shaped, second_shaped}
+use Rattle.pair.proofs.Passing.{judged}
 
 module _ {first second : List ℤ} where
   pub not_alike : ¬ Alike first second → Checks first second 1

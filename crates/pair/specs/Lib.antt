@@ -1,6 +1,4 @@
 -- ---- to be believed: 01's table, lines 1 and 3 to 8
 pub mod Pair
--- ---- what callers use: a judgement as a number, a pair that passes
+-- ---- what callers use: a pair that passes
 pub mod Passing
--- ---- no second number, and no second buffer
-pub mod Unique

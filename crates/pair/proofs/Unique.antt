@@ -7,7 +7,7 @@ use Rattle.outline.specs.Drawing.{Sound}
 use Rattle.drawing.specs.Seen.{told_unique}
 use Rattle.rules.specs.Refusals.{failed_unique}
 use Rattle.pair.specs.Pair.{Alike, lines, Checks, FirstTold, SecondTold}
-use Rattle.pair.specs.Passing.{first_passes, pair_passes}
+use Rattle.pair.proofs.Passing.{first_passes, pair_passes}
 
 module _ (first second : List ℤ) where
   pub check_unique : (k k' : ℕ) → Checks first second k → Checks first second k' → k ≡ k'
