@@ -1,5 +1,5 @@
 -- `reply`: the line of a refusal, and of an answer.
-use Rattle.std.proofs.Common.{◌≡◌, ℕ, length, sym, arith, length-take-le}
+use Rattle.std.proofs.Common.{◌≡◌, ℕ, length, arith}
 use lib.ListN.{replicate, length-replicate}
 use Rattle.limits.specs.Limits.{room}
 use Rattle.terminal.specs.Longest.{small}
