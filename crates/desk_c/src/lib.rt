@@ -1,6 +1,6 @@
 // The calls of `desk` for C, and for what links as C does: each slice is a pointer and a length, and the result comes
-// by value. A crate is built as a library or as an archive, not as both: so each export here calls the function of that
-// name in `desk`, and states its clauses again.
+// by value. A crate is built as a library or as an archive, not as both: so each export here calls the function of
+// that name in `desk`, and states its clauses again.
 #![tactic(auto)]
 
 ghost use Rattle.desk.specs.Answer.{Answers, result_of};

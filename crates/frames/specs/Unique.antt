@@ -31,5 +31,6 @@ module _ (out : List ℕ) (at r s : ℕ) (out' out'' : List ℕ) where
       (r ≡ s) × (out' ≡ out'')
   refusal_line_unique number = written_unique (refusal_line number) out at r s out' out''
 
-  pub fault_line_unique : Written fault_line out at r out' → Written fault_line out at s out'' → (r ≡ s) × (out' ≡ out'')
+  pub fault_line_unique : Written fault_line out at r out' → Written fault_line out at s out'' → (r ≡ s) ×
+      (out' ≡ out'')
   fault_line_unique = written_unique fault_line out at r s out' out''

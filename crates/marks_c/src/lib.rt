@@ -1,6 +1,6 @@
 // The call of `marks` for C, and for what links as C does: each slice is a pointer and a length, and a flat struct
-// comes by value. A crate is built as a library or as an archive, not as both: so the export here calls the function of
-// that name in `marks`, and states its clause again.
+// comes by value. A crate is built as a library or as an archive, not as both: so the export here calls the function
+// of that name in `marks`, and states its clause again.
 #![tactic(auto)]
 
 ghost use Rattle.marks.specs.Carry.{mark};

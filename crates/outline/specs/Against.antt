@@ -20,7 +20,8 @@ weighed = (R :- P) :* TurnE C D A :+ P :* TurnE C D B
 parts : E
 parts = R :* R :* DotE B C D :+ Q :* (R :- Q) :* DotE C D D
 
-pub aside : {a b c d : Point} → Positive (turn_of c d a) → turn_of c d b ≡ pos 0 → Positive (Dot b c d) → ¬ Shared a b c d
+pub aside : {a b c d : Point} → Positive (turn_of c d a) → turn_of c d b ≡ pos 0 → Positive (Dot b c d) →
+    ¬ Shared a b c d
 unfolding weighed parts
 aside {a} {b} {c} {d} left on off s =
     let ρ = env a b c d s.p s.q s.r in
@@ -53,7 +54,8 @@ module _ (p i q j : Point) where
     other = λ n. absurd (n l);
   }
 
-  pub angle_other : ¬ Positive (turn_of p i q) → Positive (turn_of p i j) ⊎ Positive (turn_of i q j) → InsideAngle p i q j
+  pub angle_other : ¬ Positive (turn_of p i q) → Positive (turn_of p i j) ⊎ Positive (turn_of i q j) →
+      InsideAngle p i q j
   angle_other n (inl s) = record {
     left = λ l. absurd (n l);
     other = λ m h. clash_ℤ (sub_lt (by_ring (env4 p i q j) Positive (TurnE A B D) (O :- TurnE B A D) refl s)) h.0;
@@ -66,7 +68,8 @@ module _ (p i q j : Point) where
   pub angle_both : Positive (turn_of p i q) → InsideAngle p i q j → Positive (turn_of p i j) × Positive (turn_of i q j)
   angle_both l a = (by_ring (env4 p i q j) Positive (TurnE B D A) (TurnE A B D) refl (a.left l).1, (a.left l).0)
 
-  pub angle_either : ¬ Positive (turn_of p i q) → InsideAngle p i q j → Positive (turn_of p i j) ⊎ Positive (turn_of i q j)
+  pub angle_either : ¬ Positive (turn_of p i q) → InsideAngle p i q j → Positive (turn_of p i j) ⊎
+      Positive (turn_of i q j)
   angle_either n a = go (≤ℤ_total (turn_of p i j) (pos 0)) (≤ℤ_total (turn_of i q j) (pos 0))
     where
       go : (turn_of p i j ≤ℤ pos 0) ⊎ (pos 0 <ℤ turn_of p i j) → (turn_of i q j ≤ℤ pos 0) ⊎ (pos 0 <ℤ turn_of i q j) →
@@ -123,7 +126,8 @@ module _ (p i q j : Point) where
   pub angle_ends : InsideAngle p i q j → OnlyEnd i j p × OnlyEnd i j q
   angle_ends a = go (≤ℤ_total (turn_of p i q) (pos 0))
     where
-      side : turn_of p i q ≤ℤ pos 0 → Positive (turn_of p i j) ⊎ Positive (turn_of i q j) → OnlyEnd i j p × OnlyEnd i j q
+      side : turn_of p i q ≤ℤ pos 0 → Positive (turn_of p i j) ⊎ Positive (turn_of i q j) → OnlyEnd i j p ×
+          OnlyEnd i j q
       side n (inl s) = (clear_before s, off_after s n)
       side n (inr t) = (off_before t n, clear_after t)
 

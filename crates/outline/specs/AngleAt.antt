@@ -24,12 +24,14 @@ module _ (p W q J : Point) where
       go (inr b) = inr b
 
   -- ---- outside it
-  pub out_sharp : Positive (turn_of W q p) → ¬ (Positive (turn_of W J p) × Positive (turn_of W q J)) → ¬ InsideAngle p W q J
+  pub out_sharp : Positive (turn_of W q p) → ¬ (Positive (turn_of W J p) × Positive (turn_of W q J)) →
+      ¬ InsideAngle p W q J
   out_sharp h none i =
       let b = angle_both p W q J (subst Positive (sym (turn_at W p q)) h) i in
       none (subst Positive (turn_at W p J) b.0, b.1)
 
-  pub out_wide : ¬ Positive (turn_of W q p) → ¬ Positive (turn_of W J p) → ¬ Positive (turn_of W q J) → ¬ InsideAngle p W q J
+  pub out_wide : ¬ Positive (turn_of W q p) → ¬ Positive (turn_of W J p) → ¬ Positive (turn_of W q J) →
+      ¬ InsideAngle p W q J
   out_wide h a b i = go (angle_either p W q J (λ k. h (subst Positive (turn_at W p q) k)) i)
     where
       go : Positive (turn_of p W J) ⊎ Positive (turn_of W q J) → ⊥
@@ -37,7 +39,8 @@ module _ (p W q J : Point) where
       go (inr k) = b k
 
 -- J cannot point away from both sides on one line, where these point away from each other
-pub not_folded : (W J q p : Point) → Positive (Dot W J J) → Away W J q → Away W J p → Away W q p → turn_of W J q ≡ pos 0 →
+pub not_folded : (W J q p : Point) → Positive (Dot W J J) → Away W J q → Away W J p → Away W q p →
+    turn_of W J q ≡ pos 0 →
     ¬ (turn_of W J p ≡ pos 0)
 not_folded W J q p long off_q off_p turns e f =
     positive_not (positive_mul long (turns (ring1 (env4 W q p p) (TurnE A B C) O I (TurnE B C A) O

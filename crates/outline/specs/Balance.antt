@@ -56,7 +56,8 @@ module _ {n1 n2 n3 n4 a b p q : ℤ} (r : Balanced n1 n2 n3 n4 a b p q) where
   weights = n1 ∷ n2 ∷ n3 ∷ n4 ∷ a ∷ b ∷ p ∷ q ∷ []
 
   -- the moment about the height h makes nothing: two expressions that differ by it are equal
-  pub about : (h e f : E) → norm (e :- f :- (neg h :* total_e :+ I :* moment_e)) ≡ nil → eval weights f ≡ eval weights e
+  pub about : (h e f : E) → norm (e :- f :- (neg h :* total_e :+ I :* moment_e)) ≡ nil →
+      eval weights f ≡ eval weights e
   about h e f n =
       sym (ring2 weights e f (neg h) (N1 :+ N2) (N3 :+ N4) I (N2 :* Ya :+ N1 :* Yb) (N4 :* Yp :+ N3 :* Yq)
       r.total r.moment n)

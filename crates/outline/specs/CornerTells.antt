@@ -123,7 +123,8 @@ module _ (c : ℕ → Point) (n s t : ℕ) (here : Corner c n s t) (J : Point) (
   left_case on_left f =
       chosen q f (turn_of W q J) on_left (λ K big h k. go K big h k (sign (turn_of W q p)) (sign (turn_of W p J)))
     where
-      go : (K : ℤ) → Positive (K -ℤ pos 1) → f.N ≤ℤ K → turn_of W q J ≤ℤ K → Sign (turn_of W q p) → Sign (turn_of W p J) →
+      go : (K : ℤ) → Positive (K -ℤ pos 1) → f.N ≤ℤ K → turn_of W q J ≤ℤ K → Sign (turn_of W q p) →
+          Sign (turn_of W p J) →
           Told K
       go K big h k = at
         where
@@ -167,7 +168,8 @@ module _ (c : ℕ → Point) (n s t : ℕ) (here : Corner c n s t) (J : Point) (
   right_case on_right f =
       chosen q f (turn_of W J q) on_right (λ K big h k. go K big h k (sign (turn_of W J p)) (sign (turn_of W p q)))
     where
-      go : (K : ℤ) → Positive (K -ℤ pos 1) → f.N ≤ℤ K → turn_of W J q ≤ℤ K → Sign (turn_of W J p) → Sign (turn_of W p q) →
+      go : (K : ℤ) → Positive (K -ℤ pos 1) → f.N ≤ℤ K → turn_of W J q ≤ℤ K → Sign (turn_of W J p) →
+          Sign (turn_of W p q) →
           Told K
       go K big h k = at
         where

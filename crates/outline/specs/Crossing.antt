@@ -24,7 +24,8 @@ module _ (k : ℤ) (h : Positive k) where
       positive_cancel (positive_nonneg h) (positive_cancel (positive_nonneg h) (subst Positive (turn_scale k a b z) p))
 
   -- the right side of ab is the left side of ba
-  right_smaller : (a b z : Point) → Positive (neg_ℤ (turn_of (out k a) (out k b) (out k z))) → Positive (neg_ℤ (turn_of a b z))
+  right_smaller : (a b z : Point) → Positive (neg_ℤ (turn_of (out k a) (out k b) (out k z))) →
+      Positive (neg_ℤ (turn_of a b z))
   right_smaller a b z p =
       subst Positive (sym (turn_back a b z))
       (turn_smaller b a z (subst Positive (turn_back (out k a) (out k b) (out k z)) p))

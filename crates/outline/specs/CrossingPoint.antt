@@ -28,7 +28,8 @@ W = record { x = ab_x; y = ab_y }
 abbrev weighed : E
 weighed = (R :- Q) :* TurnE A B C :+ Q :* TurnE A B D
 
-module _ (i j a b : Point) (right : Positive (turn_of j i a)) (left : Positive (turn_of i j b)) (s : Shared i j a b) where
+module _ (i j a b : Point) (right : Positive (turn_of j i a)) (left : Positive (turn_of i j b))
+    (s : Shared i j a b) where
   abbrev ρ : List ℤ
   ρ = env i j a b s.p s.q s.r
 

@@ -57,7 +57,8 @@ module _ (k m a b q : ℤ) (k+ : Positive k) (m+ : Positive m) (mean : k *ℤ (a
     sub_lt (positive_cancel (positive_nonneg km) (subst Positive
         (ring1 ρ (v 1 :* (v 3 :- v 2)) ((v 0 :+ v 1) :* (v 4 :- v 2)) I mean_e O mean refl) (positive_mul m+ h))),
     sub_lt (positive_cancel (positive_nonneg km) (subst Positive
-        (ring1 ρ (v 0 :* (v 3 :- v 2)) ((v 0 :+ v 1) :* (v 3 :- v 4)) (neg I) mean_e O mean refl) (positive_mul k+ h))),
+        (ring1 ρ (v 0 :* (v 3 :- v 2)) ((v 0 :+ v 1) :* (v 3 :- v 4)) (neg I) mean_e O mean refl)
+        (positive_mul k+ h))),
   )
 
   -- or equal to both

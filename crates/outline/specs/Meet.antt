@@ -40,7 +40,8 @@ module _ (P Q a b : Point) where
         same_y = ring ρ (At area_e A.y (TurnE C D A) B.y) (At area_e C.y (TurnE B A C) D.y) refl;
       }
     where
-      area : OneAbove (turn_of Q P a) (turn_of P Q b) (turn_of a b P) (turn_of b a Q) → Positive (turn_of Q P a +ℤ turn_of P Q b)
+      area : OneAbove (turn_of Q P a) (turn_of P Q b) (turn_of a b P) (turn_of b a Q) →
+          Positive (turn_of Q P a +ℤ turn_of P Q b)
       area (first k) = positive_add k h2
       area (second k) =
           by_ring (env4 P Q a b) Positive (TurnE A B D :+ TurnE B A C) area_e refl (positive_add k h1)

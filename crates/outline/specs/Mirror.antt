@@ -26,7 +26,8 @@ shaped_tells d =
 
 abbrev pub in_range_test : List ℤ → Bool
 in_range_test d =
-    all_below (length d) (λ k. le_z (neg_ℤ (pos furthest)) (get_or d k (pos 0)) && le_z (get_or d k (pos 0)) (pos furthest))
+    all_below (length d) (λ k. le_z (neg_ℤ (pos furthest)) (get_or d k (pos 0)) && le_z (get_or d k (pos 0))
+    (pos furthest))
 
 pub in_range_tells : (d : List ℤ) → Tells (in_range_test d) (InRange d)
 in_range_tells d =

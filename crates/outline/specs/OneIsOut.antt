@@ -30,7 +30,8 @@ abbrev K : E
 K = v 10
 
 -- ---- a side that runs through IJ at W runs through close to W too
-module _ (i j a b w : Point) (on_ij : turn_of i j w ≡ pos 0) (on_ab : turn_of a b w ≡ pos 0) (t : RunsThrough i j a b) where
+module _ (i j a b w : Point) (on_ij : turn_of i j w ≡ pos 0) (on_ab : turn_of a b w ≡ pos 0)
+    (t : RunsThrough i j a b) where
   abbrev ρ : ℤ → List ℤ
   ρ k =
       i.x ∷ i.y ∷ j.x ∷ j.y ∷ a.x ∷ a.y ∷ b.x ∷ b.y ∷ w.x ∷ w.y ∷ k ∷ []
@@ -104,7 +105,8 @@ module _ (d : ℕ → Point) (n s : ℕ) (i j w : Point) where
 
 -- ---- side s runs through at w, and w is on no other side
 module _ (d : ℕ → Point) (n : ℕ) (closed : d n ≡ d 0) (s : ℕ) (s< : s < n) (i j w : Point)
-    (on_ij : turn_of i j w ≡ pos 0) (on_s : turn_of (d s) (d (suc s)) w ≡ pos 0) (t : RunsThrough i j (d s) (d (suc s)))
+    (on_ij : turn_of i j w ≡ pos 0) (on_s : turn_of (d s) (d (suc s)) w ≡ pos 0)
+    (t : RunsThrough i j (d s) (d (suc s)))
     (lengths : (m : ℕ) → m < n → Positive (len2 (d m) (d (suc m))))
     (off : (m : ℕ) → m < n → ¬ (m ≡ s) → ¬ On w (d m) (d (suc m))) where
   module _ (k : ℤ) (k+ : Positive k) (far : (m : ℕ) → m < n → ¬ (m ≡ s) → Clear d n s i j w m k) where

@@ -31,7 +31,8 @@ module _ (p W e j : Point) where
       back z h =
           by_ring (env4 W p z z) Nonneg (O :- TurnE B A C) (TurnE A B C) refl (le_sub h)
 
-      go : (turn_of p W e ≤ℤ pos 0) ⊎ (pos 0 <ℤ turn_of p W e) → (turn_of p W j ≤ℤ pos 0) ⊎ (pos 0 <ℤ turn_of p W j) → ⊥
+      go : (turn_of p W e ≤ℤ pos 0) ⊎ (pos 0 <ℤ turn_of p W e) → (turn_of p W j ≤ℤ pos 0) ⊎ (pos 0 <ℤ turn_of p W j) →
+          ⊥
       go (inr h) (inl g) = no g (subst (λ z. pos 0 <ℤ z) (sym (turn_at W p j)) (i.left h).1)
       go (inr h) (inr g) = neg_turn e j (<ℤ_le (i.left h).0) (k.left g).0
       go (inl h) (inr g) = no h (subst (λ z. pos 0 <ℤ z) (sym (turn_at W p e)) (k.left g).1)

@@ -96,7 +96,8 @@ crossing {a} {b} {c} {d} h n m =
     let ρ = env4 a b c d in
     let l = other_way m in
     let h≤ : turn_of a b c ≤ℤ turn_of a b d = <ℤ_le h in
-    let k≤ : turn_of c d b ≤ℤ turn_of c d a = sub_le (by_ring ρ Nonneg span (TurnE C D A :- TurnE C D B) refl (le_sub h≤)) in
+    let k≤ : turn_of c d b ≤ℤ turn_of c d a = sub_le
+    (by_ring ρ Nonneg span (TurnE C D A :- TurnE C D B) refl (le_sub h≤)) in
     record {
       p = turn_of c d a;
       q = neg_ℤ (turn_of a b c);
@@ -188,7 +189,8 @@ in_line {a} {b} {c} {d} e k = go (k.flat e)
 pub quick_sound : {a b c d : Point} → Quick a b c d → Shared a b c d
 quick_sound {a} {b} {c} {d} k = go (≤ℤ_total (turn_of a b c) (turn_of a b d))
   where
-    rising : turn_of a b c ≤ℤ turn_of a b d → (turn_of a b d ≤ℤ turn_of a b c) ⊎ (turn_of a b c <ℤ turn_of a b d) → Shared a b c d
+    rising : turn_of a b c ≤ℤ turn_of a b d → (turn_of a b d ≤ℤ turn_of a b c) ⊎ (turn_of a b c <ℤ turn_of a b d) →
+        Shared a b c d
     rising h (inl l) = in_line (≤ℤ_antisym h l) k
     rising h (inr l) = crossing l k.first k.second
 

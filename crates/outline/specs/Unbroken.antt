@@ -55,7 +55,8 @@ module _ (d : List ℤ) (s : Simple d) where
 
 -- ---- of three points on one line, one lies on the segment of the others with p as origin: (p . q)(q . s) + |pq|^2 (s
 -- . p) is the square of the turn; so not all three products are above zero
-pub not_all : (p q s : Point) → turn_of p q s ≡ pos 0 → Positive (Dot p q s) → Positive (Dot q s p) → Dot s p q ≤ℤ pos 0
+pub not_all : (p q s : Point) → turn_of p q s ≡ pos 0 → Positive (Dot p q s) → Positive (Dot q s p) →
+    Dot s p q ≤ℤ pos 0
 not_all p q s t h k = go (≤ℤ_total (Dot s p q) (pos 0))
   where
     go : (Dot s p q ≤ℤ pos 0) ⊎ (pos 0 <ℤ Dot s p q) → Dot s p q ≤ℤ pos 0

@@ -43,5 +43,6 @@ count_of : (b : Bool) (n next : ℕ) (l : Listed) →
 count_of true n next l = refl
 count_of false n next l = refl
 
-pub counted_is : (text : List ℕ) (at most : ℕ) → (counted_wholes text at most).count ≡ up_to most (first_number text at)
+pub counted_is : (text : List ℕ) (at most : ℕ) →
+    (counted_wholes text at most).count ≡ up_to most (first_number text at)
 counted_is text at most = count_of (leb (first_number text at) most) _ _ _

@@ -1,6 +1,6 @@
 -- All allowed trees of a range, listed: every one, each once, in the order of the told runs. `cut?` and `ok?` are
--- Boolean tests here, so that the listing of given corners is computed (by `refl`, under `unfolding flat_map`). A `let`
--- and the branches of `elim` wait: what is not allowed costs one test.
+-- Boolean tests here, so that the listing of given corners is computed (by `refl`, under `unfolding flat_map`). A
+-- `let` and the branches of `elim` wait: what is not allowed costs one test.
 use Rattle.std.specs.Prelude.{◌≡◌, refl, Bool, true, false, ◌&&◌, ℕ, zero, suc, ◌+◌, ◌-◌, ◌≤◌, ◌<◌, T, eqb, ltb, length}
 use Rattle.std.proofs.Common.{ap, subst, inr, arith, eqb→eq, ltb→lt, lt→ltb}
 use mathlib.Core.List.{List, [], ◌∷◌, ◌++◌, flat_map}

@@ -113,7 +113,8 @@ module _ (cut : ℕ → ℕ → Type 0) (ok : List ℕ → Type 0) where
       same e (inl p) = inl p
       same e (inr d) =
           inr (subst
-          (λ x. Less ((a ∷ x) ++ run_below a t) (run_line a t') ⊎ Less (run_line a t') ((a ∷ x) ++ run_below a t)) (sym e)
+          (λ x. Less ((a ∷ x) ++ run_below a t) (run_line a t') ⊎ Less (run_line a t') ((a ∷ x) ++ run_below a t))
+          (sym e)
           (⊎_map (less_prepend (a ∷ corners t') (run_below a t) (run_below a t'))
           (less_prepend (a ∷ corners t') (run_below a t') (run_below a t)) d))
 
@@ -122,7 +123,8 @@ module _ (cut : ℕ → ℕ → Type 0) (ok : List ℕ → Type 0) where
           Differ t t' (run_line a t) (run_line a t')
       go g (inl e) = same e (g e)
       go g (inr d) =
-          inr (⊎_map (λ l. less_append (a ∷ corners t) (a ∷ corners t') (run_below a t) (run_below a t') (inr (refl, l)))
+          inr (⊎_map (λ l. less_append (a ∷ corners t) (a ∷ corners t') (run_below a t) (run_below a t')
+          (inr (refl, l)))
           (λ l. less_append (a ∷ corners t') (a ∷ corners t) (run_below a t') (run_below a t) (inr (refl, l))) d)
 
   -- two links to the same corner

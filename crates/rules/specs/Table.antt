@@ -219,7 +219,8 @@ module _ {cut : ℕ → ℕ → Type 0} {ok : List ℕ → Type 0} {w : ℕ → 
       record {
         fits = a.0;
         least = λ t h. omega (arith, a.1, (c.least t h).1);
-        first = λ t h k. rw (run_line_lem i (grown choice i j), run_line_lem i t) (c.first m t h (omega (arith, a.1, k)));
+        first = λ t h k. rw (run_line_lem i (grown choice i j), run_line_lem i t)
+            (c.first m t h (omega (arith, a.1, k)));
       }
 
   pub table_value : (i j : ℕ) → suc i < j → j < n → Closes cut n i j → may i j →

@@ -30,6 +30,7 @@ module _ {n : ℕ} {pairs first second out : List ℕ} where
   }
 
   pub given : {after : List ℕ} {count bytes : ℕ} → Served n pairs first second → Roomy n (length out) →
-      Carries (LowestOrZero (InBoth first second)) (pieces n (marked pairs)) out (result_of (Pieces count bytes) after) →
+      Carries (LowestOrZero (InBoth first second)) (pieces n (marked pairs)) out
+      (result_of (Pieces count bytes) after) →
       Telling n pairs first second out (result_of (Pieces count bytes) after)
   given s r g = record { numbered = inr (s, inr (r, refl)); refused = λ l. absurd (omega (arith, l)); given = λ e. g }

@@ -86,7 +86,8 @@ module _ {n : ℕ} {pairs first second : List ℕ} (s : Served n pairs first sec
     }
 
     pub whole_given : {last : List ℕ} {count : ℕ} → Centred first second r after last → 4 * count + n ≡ r + 2 →
-        Carries (LowestOrZero (InBoth first second)) (pieces n (marked pairs)) out (result_of (case.Pieces count r) last)
+        Carries (LowestOrZero (InBoth first second)) (pieces n (marked pairs)) out
+        (result_of (case.Pieces count r) last)
     whole_given f four =
         let l = pieces n (marked pairs) in
         let c = centre (both_see first second) in

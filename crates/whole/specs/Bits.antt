@@ -135,7 +135,8 @@ unfolding count_trailing_zeros
 lowest_below zero m l h = absurd (omega arith)
 lowest_below (suc w) m l h = go (m % 2) refl (lowest_below w (m / 2) (omega (arith, pow-suc 2 w)))
   where
-    go : (r : ℕ) → m % 2 ≡ r → (0 < m / 2 → count_trailing_zeros w (m / 2) < w) → under r (count_trailing_zeros w (m / 2)) < suc w
+    go : (r : ℕ) → m % 2 ≡ r → (0 < m / 2 → count_trailing_zeros w (m / 2) < w) →
+        under r (count_trailing_zeros w (m / 2)) < suc w
     go zero e f = let t = f (omega arith) in omega (arith, t)
     go (suc r) e f = omega arith
 
@@ -164,7 +165,8 @@ less_above (suc w) m k l h t = go (m % 2) refl k t (λ j. less_above w (m / 2) j
         let z : (m - 1) / 2 ≡ m / 2 - 1 = omega arith in ap (λ x. bit x k) z ∙ f k (omega arith) (omega arith)
     go (suc r) e (suc k) t f = let z : (m - 1) / 2 ≡ m / 2 = omega arith in ap (λ x. bit x k) z
 
-pub others_stay : (w m k : ℕ) → m < 2 ^ w → 0 < m → ¬ (k ≡ count_trailing_zeros w m) → bit (bit_and m (m - 1)) k ≡ bit m k
+pub others_stay : (w m k : ℕ) → m < 2 ^ w → 0 < m → ¬ (k ≡ count_trailing_zeros w m) →
+    bit (bit_and m (m - 1)) k ≡ bit m k
 others_stay w m k l h n =
     by_cases (dec_lt k (count_trailing_zeros w m))
     (λ b. omega (arith, bit-and m (m - 1) k, lowest_first w m k b))

@@ -6,7 +6,8 @@ use Rattle.frames.proofs.feed.Given as goal
 abbrev pub invariant-loop-i : goal.invariant-loop-i
 invariant-loop-i l =
     (length l.first ≡ length l.initial.first) × (length l.second ≡ length l.initial.second)
-    × (feeds l.r l.first l.second l.i (drop l.i l.chunk) ≡ feeds l.initial.r l.initial.first l.initial.second l.initial.i (drop l.initial.i l.chunk))
+    × (feeds l.r l.first l.second l.i (drop l.i l.chunk) ≡ feeds l.initial.r l.initial.first l.initial.second
+    l.initial.i (drop l.initial.i l.chunk))
 
 abbrev pub decreases-loop-i : goal.decreases-loop-i
 decreases-loop-i l = length l.chunk - l.i
