@@ -19,14 +19,7 @@ enum Next {
     Nothing,
 }
 
-// No call is refused: enough is lent.
-fn never() -> Next
-    requires { ⊥ }
-{
-    Next::Nothing
-}
-
-// At the end of the input.
+// At the end of the input. The call is not refused: enough is lent.
 fn end(rt: &impl Print, session: Session) -> Next {
     let mut out = [0u8; MOST_AT_END];
     match terminal::finish(session, &mut out) {
@@ -34,7 +27,7 @@ fn end(rt: &impl Print, session: Session) -> Next {
             let _ = rt.write_all(&out[..len]);
             Next::Nothing
         }
-        Ran::Short => never(),
+        Ran::Short => unreachable!(),
     }
 }
 
@@ -49,7 +42,8 @@ fn write(rt: &impl Print, session: Session, lines: &[u8]) -> Next {
     }
 }
 
-// Reads once, and writes once what that gives. A read that fails counts as the end of the input.
+// Reads once, and writes once what that gives. A read that fails counts as the end of the input. The call is not
+// refused: enough is lent.
 fn turn(
     rt: &impl Print,
     input: &mut impl Read,
@@ -67,7 +61,7 @@ fn turn(
     let mut out = [0u8; CHUNK + MOST_BEYOND];
     match terminal::run(session, &chunk[..n], first, second, &mut out) {
         Ran::Done { session: next, len } => write(rt, next, &out[..len]),
-        Ran::Short => never(),
+        Ran::Short => unreachable!(),
     }
 }
 

@@ -7,12 +7,12 @@ use native.Mathlib.Nat.{add-zero}
 use native.Mathlib.Omega.{arith}
 use lib.Ieee.{binary64, to_bits}
 use lib.IntN.{ℤ}
-use lib.ListN.{length, take, drop, get_or, set, length-append}
+use lib.ListN.{length, take, get_or, set, length-append}
 use lib.Seq.{length-take-le, take-suc, sets, sets-eq, length-sets}
 use Rattle.marks.specs.declared.Axis.{Axis}
 use Rattle.marks.specs.declared.Landing.{Landing}
 use Rattle.marks.specs.declared.Landing.TheVariants.{Place, OnNoPiece}
-use Rattle.questions.specs.Questions.{natural_text, whole_text, axis_text, landing_text, Replies}
+use Rattle.questions.specs.Questions.{natural_text, whole_text, axis_text, landing_text}
 use Rattle.questions.specs.Parts.{Put, LaidOut}
 
 sets_append : (xs ys l : List ℕ) (i : ℕ) → sets l i (xs ++ ys) ≡ sets (sets l i xs) (i + length xs) ys
@@ -74,8 +74,3 @@ put_place l a b before at e x y = rw e (put_two (axis_text a) (axis_text b) befo
 pub put_nothing : (l : Landing) (before : List ℕ) (at : ℕ) → l ≡ OnNoPiece → Put (landing_text l) before at at before
 unfolding landing_text
 put_nothing l before at e = rw e (record { next = omega arith; stored = refl })
-
-pub reply_fits : {line before after : List ℕ} {r : ℕ} → Replies line before r after → r ≤ length after
-reply_fits {before = before} {after} {r} p =
-    let w = p.answer in
-    omega (arith, p.counted, ap length p.written ∙ length-append w (drop (length w) before))

@@ -3,48 +3,21 @@ use mathlib.Core.Path.{◌≡◌, refl, sym, ap, subst, ◌∙◌}
 use mathlib.Core.Bool.{Bool, true, false, cond, ◌&&◌, true≢false}
 use mathlib.Core.List.{List}
 use mathlib.Core.Option.{Option, none, some}
-use Prim.Native.Nat.{ℕ, ◌+◌, ◌<◌, ◌≤◌}
-use native.Mathlib.Omega.{arith}
-use borrow.Author.Tests.{lt-ltb, le-ltb, le-leb, lt-leb, eq-eqb, ne_eqb}
-use lib.Dec.{eqb, ltb, leb}
-use lib.IntN.{ℤ, pos}
-use lib.ListN.{length, take, get_or}
+use Prim.Native.Nat.{ℕ, ◌<◌, ◌≤◌}
+use borrow.Author.Tests.{lt-ltb, le-ltb, le-leb, eq-eqb, ne_eqb}
+use lib.Dec.{eqb, ltb}
+use lib.IntN.{ℤ}
+use lib.ListN.{length}
 use Rattle.limits.specs.Limits.{most_numbers}
 use Rattle.recorded.specs.Decimals.{word_start, natural_at, wholes_listed, whole_in}
-use Rattle.recorded.specs.Lent.{Holds}
-use Rattle.recorded.specs.Counted.{first_number, after_first, counted_wholes, list_in, told}
-use Rattle.recorded.specs.Told.{list_told, counted_is}
+use Rattle.recorded.specs.Counted.{first_number, after_first, counted_wholes}
 use Rattle.recorded.specs.declared.decimals.Natural.{Natural}
 use Rattle.recorded.specs.declared.decimals.Listed.{Listed}
 use Rattle.recorded.specs.declared.counted.Counted.{Counted}
 use Rattle.questions.specs.Questions.{Question, mark_asked, line_limit, numbers, first_read, second_read}
-use Rattle.questions.specs.Questions.{mark_at, ends, is_mark, the_mark, mark_question, asks, question}
+use Rattle.questions.specs.Questions.{mark_at, ends, is_mark, the_mark, mark_question, question}
 
 -- ---- four tests
-no_1 : (a r : Bool) → a ≡ false → (a && r) ≡ false
-no_1 true r e = absurd (true≢false e)
-no_1 false r e = refl
-
-no_2 : (a b r : Bool) → b ≡ false → (a && (b && r)) ≡ false
-no_2 true b r e = no_1 b r e
-no_2 false b r e = refl
-
-no_3 : (a b c r : Bool) → c ≡ false → (a && (b && (c && r))) ≡ false
-no_3 true b c r e = no_2 b c r e
-no_3 false b c r e = refl
-
-no_4 : (a b c d : Bool) → d ≡ false → (a && (b && (c && d))) ≡ false
-no_4 true b c d e = go b
-  where
-    go : (b : Bool) → (b && (c && d)) ≡ false
-    go true = last c
-      where
-        last : (c : Bool) → (c && d) ≡ false
-        last true = e
-        last false = refl
-    go false = refl
-no_4 false b c d e = refl
-
 all_yes : (a b c d : Bool) → a ≡ true → b ≡ true → c ≡ true → d ≡ true → (a && (b && (c && d))) ≡ true
 all_yes a b c d p q r s = rw (p, q, r, s)
 
@@ -81,24 +54,6 @@ module _ (line : List ℕ) (at : ℕ) (a b : Counted) (m : Listed) (ea : a ≡ c
 
   abbrev end : Bool
   end = ends line at
-
-  refused : is_mark line at ≡ false → mark_question line at ≡ none
-  refused e = not_this (is_mark line at) (some (the_mark line at)) e
-
-  pub no_first : a.good ≡ false → mark_question line at ≡ none
-  no_first e = refused (no_1 good₁ _ (sym (ap (λ (r : Counted). r.good) ea) ∙ e))
-
-  pub no_second : b.good ≡ false → mark_question line at ≡ none
-  no_second e = refused (no_2 good₁ good₂ (good₃ && end) (sym (ap (λ (r : Counted). r.good) second_is) ∙ e))
-
-  pub no_mark : m.good ≡ false → mark_question line at ≡ none
-  no_mark e = refused (no_3 good₁ good₂ good₃ end (sym (ap (λ (r : Listed). r.good) mark) ∙ e))
-
-  pub no_end : (p : ℕ) → p ≡ word_start line m.next → p < length line → mark_question line at ≡ none
-  no_end p e h =
-      let at_end = ap (λ (r : Listed). word_start line r.next) mark in
-      let more = lt-leb _ _ (subst (λ (k : ℕ). k < length line) (e ∙ at_end) h) in
-      refused (no_4 good₁ good₂ good₃ end more)
 
   pub is_asked : (p : ℕ) → p ≡ word_start line m.next → length line ≤ p → a.good ≡ true → b.good ≡ true →
       m.good ≡ true → (first second : List ℤ) (x y : ℤ) →

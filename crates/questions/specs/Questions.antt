@@ -14,7 +14,7 @@ use Rattle.std.proofs.Math.Option.{Option, none, some}
 use Rattle.std.specs.Float.{binary64}
 use Rattle.std.specs.Float.Ieee.{to_bits}
 use Rattle.limits.specs.Limits.{most_numbers, room}
-use Rattle.recorded.specs.Decimals.{word_start, natural_at, wholes_listed, whole_in}
+use Rattle.recorded.specs.Decimals.{word_start, wholes_listed, whole_in}
 use Rattle.recorded.specs.Counted.{first_number, after_first, counted_wholes, told}
 use Rattle.recorded.specs.declared.counted.Counted.{Counted}
 use Rattle.marks.specs.Carry.{mark, CarriesMark, result_of}
