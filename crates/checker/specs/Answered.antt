@@ -9,8 +9,8 @@ use Rattle.pair.proofs.Passing.{sound_pair}
 use Rattle.rules.specs.Lists.{In, Distinct}
 use Rattle.rules.specs.Cutting.{Pairs, Region, pieces}
 use Rattle.rules.specs.Centre.{Lowest, lowest_one, size}
-use Rattle.rules.specs.Regions.{pieces_regions, pieces_distinct}
-use Rattle.rules.specs.Count.{distinct_map, pieces_size}
+use Rattle.rules.proofs.Regions.{pieces_regions, pieces_distinct}
+use Rattle.rules.proofs.Count.{distinct_map, pieces_size}
 use Rattle.rules.specs.Refusals.{line, FirstFailed, passed}
 use Rattle.rules.specs.Result.{Result}
 use Rattle.desk.specs.Answer.{InBoth, ValidCutting, of_cutting, asked, Answers}

@@ -9,7 +9,7 @@ use Rattle.outline.specs.InOrOn.{CentreSees}
 use Rattle.outline.specs.Tells.{Tells, as_well, surely, never, passed, failed, if_yes, if_no}
 use Rattle.outline.specs.Tells.{itself, and_tells, then_tells, eq_tells, lower_tells}
 use Rattle.outline.specs.Mirror.{simple_test, simple_tells, sees_test, sees_tells}
-use Rattle.outline.specs.CentreMirror.{centre_test, centre_tells}
+use Rattle.outline.proofs.CentreMirror.{centre_test, centre_tells}
 use Rattle.rules.specs.Result.{Result}
 use Rattle.desk.specs.Answer.{Answers}
 use Rattle.desk.specs.Unique.{answer_unique}

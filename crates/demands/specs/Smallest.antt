@@ -9,21 +9,21 @@ use Rattle.outline.specs.Drawing.{corners}
 use Rattle.outline.specs.Tells.{Tells, as_well, itself, then_tells}
 use Rattle.outline.specs.Seeing.{sees_mutual}
 use Rattle.outline.specs.Mirror.{sees_test, sees_tells}
-use Rattle.outline.specs.CentreMirror.{centre_test, centre_tells}
+use Rattle.outline.proofs.CentreMirror.{centre_test, centre_tells}
 use Rattle.pair.specs.Passing.{SoundPair, equally_many}
 use Rattle.rules.specs.Lists.{In}
 use Rattle.rules.specs.Cutting.{Pairs, Uncrossed, Region, Tree, leaf, link, tree, pieces, told, one}
 use Rattle.rules.specs.Centre.{Lowest, Layout}
 use Rattle.rules.specs.Plan.{Plan, stars, ValidBy, FirstBy, Cuttable}
-use Rattle.rules.specs.Trees.{Node, range_node, total}
-use Rattle.rules.specs.Regions.{pieces_regions}
-use Rattle.rules.specs.Uses.{uses}
-use Rattle.rules.specs.Valid.{same_set, uses_tree}
-use Rattle.rules.specs.Agree.{Agree, stars_agree, valid_same, first_same, layout_same}
-use Rattle.rules.specs.Lays.{Says, has_centre, has_centre_lem, lays, lays_layout}
-use Rattle.rules.specs.Listing.{listing, listing_all}
-use Rattle.rules.specs.Pick.{lightest, pick}
-use Rattle.rules.specs.Computed.{none_listed, listed_cutting, pick_first}
+use Rattle.rules.proofs.Trees.{Node, range_node, total}
+use Rattle.rules.proofs.Regions.{pieces_regions}
+use Rattle.rules.proofs.Uses.{uses}
+use Rattle.rules.proofs.Valid.{same_set, uses_tree}
+use Rattle.rules.proofs.Agree.{Agree, stars_agree, valid_same, first_same, layout_same}
+use Rattle.rules.proofs.Lays.{Says, has_centre, has_centre_lem, lays, lays_layout}
+use Rattle.rules.proofs.Listing.{listing, listing_all}
+use Rattle.rules.proofs.Pick.{lightest, pick}
+use Rattle.rules.proofs.Computed.{none_listed, listed_cutting, pick_first}
 use Rattle.desk.specs.Answer.{InBoth, Cut, plan, ValidCutting}
 
 -- ---- where something is listed, a range is picked

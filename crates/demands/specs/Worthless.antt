@@ -14,7 +14,7 @@ use Rattle.rules.specs.Lists.{In}
 use Rattle.rules.specs.Cutting.{Pairs, pieces, one}
 use Rattle.rules.specs.Centre.{Layout, size, layout_size}
 use Rattle.rules.specs.Plan.{Plan, stars}
-use Rattle.rules.specs.Valid.{first_unique}
+use Rattle.rules.proofs.Valid.{first_unique}
 use Rattle.rules.specs.Result.{Result, Carries, Given}
 use Rattle.desk.specs.Answer.{Cut, plan, FirstCutting, Answers}
 use Rattle.desk.specs.Unique.{answer_unique}

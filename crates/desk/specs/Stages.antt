@@ -12,7 +12,8 @@ use Rattle.drawing.specs.declared.Judged.{Judged}
 use Rattle.rules.specs.Cells.{InBoth}
 use Rattle.rules.specs.Refusals.{Line, line}
 use Rattle.rules.specs.Plan.{Cuttable, stars_one}
-use Rattle.rules.specs.Result.{Result, ComesBack, comes_back_unique}
+use Rattle.rules.specs.Result.{Result, ComesBack}
+use Rattle.rules.proofs.Result.{comes_back_unique}
 use Rattle.cutting.specs.Answer.{MayCut, plan}
 
 -- ---- the judgement: 01's number for a first drawing

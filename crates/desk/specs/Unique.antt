@@ -3,7 +3,8 @@ use Rattle.std.specs.Prelude.{◌≡◌, List, ℕ, ℤ, length}
 use Rattle.std.proofs.Common.{ap}
 use Rattle.outline.specs.Drawing.{corners}
 use Rattle.rules.specs.Plan.{stars_one}
-use Rattle.rules.specs.Result.{Result, comes_back_unique}
+use Rattle.rules.specs.Result.{Result}
+use Rattle.rules.proofs.Result.{comes_back_unique}
 use Rattle.desk.specs.Answer.{InBoth, Cut, plan, asked, Answers, result_of}
 use Rattle.desk.specs.declared.Outcome.{Outcome}
 

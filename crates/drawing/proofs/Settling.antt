@@ -15,7 +15,7 @@ use Rattle.outline.specs.Drawing.{Sound, corners}
 use Rattle.outline.specs.InOrOn.{CentreSees}
 use Rattle.outline.specs.Tells.{Tells, as_well, most_tells}
 use Rattle.outline.specs.Way.{GrazedBy}
-use Rattle.outline.specs.Third.{third_apart}
+use Rattle.outline.proofs.Third.{third_apart}
 use Rattle.drawing.specs.Sight.{Seen}
 use Rattle.drawing.specs.Table.{cell, both, Code, Marked, RowsDone, Coded, Settled, Settling}
 use Rattle.drawing.specs.Table.{PairSettled, RowSettled, RowsSettled}

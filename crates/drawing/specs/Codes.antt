@@ -8,8 +8,8 @@ use Rattle.outline.specs.Placed.{on_turn}
 use Rattle.outline.specs.Way.{GrazedBy}
 use Rattle.outline.specs.Seeing.{sees_mutual}
 use Rattle.outline.specs.CentreSight.{centre_mutual, centre_beside}
-use Rattle.outline.specs.TwoKinds.{strict_centre}
-use Rattle.outline.specs.Third.{third_unseen, third_parts}
+use Rattle.outline.proofs.TwoKinds.{strict_centre}
+use Rattle.outline.proofs.Third.{third_unseen, third_parts}
 use Rattle.drawing.specs.Sight.{Cell}
 use Rattle.drawing.specs.Table.{Grazed, Code}
 

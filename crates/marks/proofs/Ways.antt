@@ -17,7 +17,7 @@ use Rattle.pair.proofs.Passing.{sound_pair}
 use Rattle.rules.specs.Lists.{In}
 use Rattle.rules.specs.Cutting.{pieces}
 use Rattle.rules.specs.Centre.{Layout}
-use Rattle.rules.specs.Regions.{pieces_regions}
+use Rattle.rules.proofs.Regions.{pieces_regions}
 use Rattle.rules.specs.Refusals.{FirstFailed, all_hold, longer, put_in}
 use Rattle.rules.specs.Result.{Result, Given}
 use Rattle.desk.specs.Answer as desk

@@ -6,7 +6,8 @@ use Rattle.whole.specs.Ring.{v, ◌:*◌, ring}
 use Rattle.outline.specs.Drawing.{Point, corner, after}
 use Rattle.outline.specs.InOrOn.{spot, OnSegment, OnSide, RightSide, OddCount, InOrOn}
 use Rattle.outline.specs.OnSegment.{on_turned}
-use Rattle.outline.specs.Passing.{higher, left, passes, crosses, grown, passing}
+use Rattle.outline.specs.Passing.{higher, left, passes, crosses, grown}
+use Rattle.outline.proofs.Passing.{passing}
 use Rattle.outline.specs.Odd.{◌⊕◌, odd, odd_tells}
 use Rattle.outline.specs.Spell.{I}
 use Rattle.outline.specs.Tells.{Tells}

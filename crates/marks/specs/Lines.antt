@@ -18,7 +18,7 @@ use Rattle.outline.specs.Placed.{segment_on}
 use Rattle.pair.specs.Passing.{SoundPair}
 use Rattle.rules.specs.Lists.{In}
 use Rattle.rules.specs.Cutting.{Region, pieces}
-use Rattle.rules.specs.Regions.{pieces_regions}
+use Rattle.rules.proofs.Regions.{pieces_regions}
 use Rattle.rules.specs.Result.{Result, Given}
 use Rattle.desk.specs.Answer.{plan}
 use Rattle.marks.specs.Wedges.{Wedge, wedge, piece_wedges}

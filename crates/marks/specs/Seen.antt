@@ -16,7 +16,7 @@ use Rattle.outline.specs.Unbroken.{none_between, seen_area}
 use Rattle.pair.specs.Passing.{SoundPair, equally_many}
 use Rattle.rules.specs.Lists.{In}
 use Rattle.rules.specs.Cutting.{Pairs, Side, Joined, Region, pieces}
-use Rattle.rules.specs.Regions.{pieces_regions}
+use Rattle.rules.proofs.Regions.{pieces_regions}
 use Rattle.rules.specs.Result.{Result, Given}
 use Rattle.desk.specs.Answer.{InBoth, plan, ValidCutting}
 use Rattle.marks.specs.Wedges.{Wedge, piece_wedges}

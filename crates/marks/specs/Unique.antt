@@ -6,9 +6,10 @@ use Rattle.std.proofs.Math.Decide.{dec_lt}
 use Rattle.outline.specs.Drawing.{Point, corners}
 use Rattle.rules.specs.Cutting.{pieces}
 use Rattle.rules.specs.Centre.{Layout, layout_unique}
-use Rattle.rules.specs.Valid.{first_unique}
+use Rattle.rules.proofs.Valid.{first_unique}
 use Rattle.rules.specs.Plan.{Plan, OneCentre, stars_one}
-use Rattle.rules.specs.Result.{Result, Given, comes_back_unique}
+use Rattle.rules.specs.Result.{Result, Given}
+use Rattle.rules.proofs.Result.{comes_back_unique}
 use Rattle.desk.specs.Answer.{InBoth, Cut, plan}
 use Rattle.marks.specs.Wedges.{Wedge, wedges}
 use Rattle.marks.specs.Lands.{LandsBy, Lands}

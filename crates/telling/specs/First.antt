@@ -6,12 +6,12 @@ use Rattle.limits.specs.Limits.{Roomy}
 use Rattle.rules.specs.Lists.{In}
 use Rattle.rules.specs.Cutting.{Pairs, Region, pieces}
 use Rattle.rules.specs.Centre.{Lowest, LowestOrZero}
-use Rattle.rules.specs.Regions.{pieces_regions}
+use Rattle.rules.proofs.Regions.{pieces_regions}
 use Rattle.rules.specs.Refusals.{FirstFailed}
 use Rattle.rules.specs.Plan.{stars, FirstBy}
 use Rattle.rules.specs.Result.{Result, Carries, Given}
-use Rattle.rules.specs.Agree.{layout_map}
-use Rattle.rules.specs.Lays.{lowest_or_zero_lowest}
+use Rattle.rules.proofs.Agree.{layout_map}
+use Rattle.rules.proofs.Lays.{lowest_or_zero_lowest}
 use Rattle.rules.specs.Cells.{marked, InBoth}
 use Rattle.telling.specs.Answer.{Served, asked, Telling}
 

@@ -5,7 +5,7 @@ use Rattle.limits.specs.Limits.{Roomy, room, longest_line}
 use Rattle.outline.specs.Drawing.{corners}
 use Rattle.rules.specs.Cutting.{pieces}
 use Rattle.rules.specs.Centre.{Lowest, layout_size}
-use Rattle.rules.specs.Count.{pieces_few, room_enough}
+use Rattle.rules.proofs.Count.{pieces_few, room_enough}
 use Rattle.rules.specs.Refusals.{line, FirstFailed, passed}
 use Rattle.rules.specs.Result.{Result}
 use Rattle.frames.specs.Frames.{line_feed, digits_of, line_of}

@@ -6,7 +6,7 @@ use borrow.Author.Tests.{not-true, not-false}
 use lib.ListN.{drop}
 use Rattle.limits.specs.Limits.{row}
 use Rattle.rules.specs.Cells.{centre_sees}
-use Rattle.rules.specs.Lays.{all}
+use Rattle.rules.proofs.Lays.{all}
 use Rattle.outline.specs.Tells.{Tells}
 use Rattle.checker.specs.Checks.{CentreSeesAll}
 use Rattle.checker.specs.Parts.{piece, in_cells}

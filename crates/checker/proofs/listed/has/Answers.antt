@@ -5,7 +5,7 @@ use borrow.Author.Rules.{rules}
 use borrow.Author.Tests.{eq-eqb, ne_eqb}
 use lib.Dec.{eqb}
 use lib.ListN.{drop}
-use Rattle.rules.specs.Lays.{some}
+use Rattle.rules.proofs.Lays.{some}
 use Rattle.checker.proofs.Along.{some_more, some_found, some_end}
 use Rattle.checker.proofs.listed.has.Goals as goal
 

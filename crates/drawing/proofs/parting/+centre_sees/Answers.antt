@@ -1,7 +1,7 @@
 -- `drawing::parting::centre_sees` meets its contract.
 use Rattle.std.specs.Prelude.{◌&&◌}
 use Rattle.std.proofs.Common.{subst, sym, arith}
-use Rattle.outline.specs.Third.{first_shorter, second_shorter}
+use Rattle.outline.proofs.Third.{first_shorter, second_shorter}
 use Rattle.drawing.specs.Table.{PairSettled}
 use Rattle.drawing.proofs.Settling.{grazed_by, parts_settled}
 use Rattle.drawing.proofs.parting.+centre_sees.Goals as goal

@@ -9,7 +9,7 @@ use Rattle.outline.specs.Drawing.{Sound, corners, Angle, Beside}
 use Rattle.outline.specs.InOrOn.{CentreSees}
 use Rattle.outline.specs.Tells.{if_yes, if_no}
 use Rattle.outline.specs.Seeing.{beside_or}
-use Rattle.outline.specs.Begins.{Begins, inside_or_along}
+use Rattle.outline.proofs.Begins.{Begins, inside_or_along}
 use Rattle.drawing.specs.Table.{Early}
 use borrow.Author.Rules.{rules}
 use Rattle.drawing.proofs.seeing.look.Goals as goal
