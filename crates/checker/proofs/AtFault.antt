@@ -1,6 +1,6 @@
 -- The first piece at fault, piece after piece: numbers 23 and 24.
 use mathlib.Core.Path.{◌≡◌, refl}
-use mathlib.Core.Logic.{◌⊎◌, inl, inr}
+use mathlib.Core.Logic.{inl, inr}
 use mathlib.Core.List.{List, [], ◌∷◌}
 use Prim.Native.Nat.{ℕ, suc}
 use Rattle.checker.specs.Checks.{verdict, Entry, Sight, FirstFailed, of_pieces}

@@ -7,8 +7,8 @@ use Prim.Native.Nat.{ℕ, ◌-◌, ◌≤◌}
 use native.Mathlib.Omega.{arith}
 use lib.ListN.{length, get_or, set, length-replicate}
 use Rattle.limits.specs.Limits.{fewest_corners, most_corners, all_cells}
-use Rattle.outline.specs.Tells.{Tells, never}
-use Rattle.checker.specs.Checks.{Entry, laid, Listed, corner_lists}
+use Rattle.outline.specs.Tells.{never}
+use Rattle.checker.specs.Checks.{Entry, Listed, corner_lists}
 use Rattle.checker.specs.Unique.{laid_one}
 use Rattle.checker.specs.Parts.{Marks, MarksAll, all_fit, FitsAll, TellsCutting}
 use Rattle.checker.proofs.Tests.{told_by}

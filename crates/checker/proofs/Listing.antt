@@ -1,14 +1,14 @@
 -- Number 21: bytes are a list of pieces where a piece stands at each place that is come to, up to the end.
 use mathlib.Core.Path.{◌≡◌, refl, sym, ap, ap₂, ◌∙◌, subst}
-use mathlib.Core.Bool.{Bool, true, false, not, ◌&&◌}
-use mathlib.Core.Logic.{◌⊎◌, inl, inr}
+use mathlib.Core.Bool.{Bool, true, false, ◌&&◌}
+use mathlib.Core.Logic.{inl, inr}
 use mathlib.Core.List.{List, [], ◌∷◌, ◌++◌}
 use Prim.Native.Nat.{ℕ, suc, ◌+◌, ◌-◌, ◌≤◌, ◌<◌}
 use native.Mathlib.Omega.{arith}
 use lib.Dec.{T, eqb, ltb, ltb→lt, lt→ltb}
 use lib.ListN.{length, get_or, take, drop, length-take, length-drop, drop_of_length-le, take-append-drop}
-use lib.Seq.{drop-cons, drop-drop, length-take-le}
-use Rattle.outline.specs.Tells.{Tells, never, as_well, if_no}
+use lib.Seq.{drop-cons, drop-drop}
+use Rattle.outline.specs.Tells.{Tells, as_well, if_no}
 use Rattle.rules.specs.Lists.{In}
 use Rattle.rules.proofs.Lays.{some}
 use Rattle.checker.specs.Checks.{Entry, laid, Allowed, Listed, IsList}

@@ -1,15 +1,15 @@
 -- Neighbours round a piece are the two ends of a step, or the first and the last corner.
 use mathlib.Core.Path.{◌≡◌, refl, sym, subst}
-use mathlib.Core.Logic.{◌⊎◌, inl, inr}
+use mathlib.Core.Logic.{inl, inr}
 use mathlib.Core.List.{List, [], ◌∷◌}
 use Prim.Native.Nat.{ℕ, ◌≤◌, ◌<◌}
 use native.Mathlib.Omega.{arith}
 use lib.ListN.{length}
-use Rattle.rules.specs.Lists.{In, Rising, Rise, rise_from, rise_last}
-use Rattle.rules.specs.Cutting.{Inside, Outside, Near, last}
+use Rattle.rules.specs.Lists.{In, Rising, rise_from, rise_last}
+use Rattle.rules.specs.Cutting.{Inside, Outside, last}
 use Rattle.rules.proofs.Trees.{rise_is_last}
 use Rattle.rules.proofs.Regions.{last_of}
-use Rattle.checker.specs.Nested.{Step, Steps, ends}
+use Rattle.checker.specs.Nested.{Step}
 
 -- a member of a rising list that is above its first number comes after it
 later : (a x : ℕ) (s : List ℕ) → In x (a ∷ s) → a < x → In x s

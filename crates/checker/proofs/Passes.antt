@@ -7,11 +7,9 @@ use mathlib.Core.Logic.{inl, inr}
 use mathlib.Core.List.{List, [], ◌∷◌}
 use Prim.Native.Nat.{ℕ, suc, ◌+◌, ◌-◌, ◌≤◌}
 use native.Mathlib.Numerals.{add-one}
-use lib.ListN.{length, get_or, set, take, drop}
-use Rattle.rules.specs.Cutting.{closing}
-use Rattle.limits.specs.Limits.{place}
+use lib.ListN.{length, get_or, take, drop}
 use Rattle.checker.specs.Checks.{verdict, Entry, corner_lists, Sight, FirstFailed, of_pieces}
-use Rattle.checker.specs.Parts.{closed, stepped, MarksPiece, Marks, MarksAll, fits, all_fit, FitsAll}
+use Rattle.checker.specs.Parts.{MarksPiece, Marks, MarksAll, fits, all_fit, FitsAll}
 use Rattle.checker.specs.Parts.{piece, in_cells, FirstFault}
 use Rattle.checker.specs.declared.Checked.{Checked}
 use Rattle.checker.specs.declared.Checked.TheVariants.{Accepted}

@@ -3,11 +3,11 @@
 --     bytes:  done                  | k centre corners  k centre corners ..
 --                                  at         at + 2   at + 2 + k
 use mathlib.Core.Path.{◌≡◌, refl, sym, ap, ap₂, ◌∙◌, subst}
-use mathlib.Core.Logic.{◌⊎◌, inl, inr}
+use mathlib.Core.Logic.{inl, inr}
 use mathlib.Core.List.{List, [], ◌∷◌, ◌++◌}
-use Prim.Native.Nat.{ℕ, zero, suc, ◌+◌, ◌-◌, ◌≤◌, ◌<◌}
+use Prim.Native.Nat.{ℕ, suc, ◌+◌, ◌-◌, ◌≤◌, ◌<◌}
 use native.Mathlib.Omega.{arith}
-use lib.ListN.{length, get_or, take, drop, length-append, length-drop, drop_of_length-le, take-append-drop}
+use lib.ListN.{length, get_or, take, drop, length-append, length-drop}
 use lib.Seq.{get_or-drop, drop-drop, take-append_seam, drop-append_seam}
 use Rattle.limits.specs.Limits.{row}
 use Rattle.rules.specs.Lists.{In}

@@ -1,15 +1,14 @@
 -- What the tests along a piece tell: whether its corners rise below n, whether one of them is its centre, whether its
 -- lines are seen, and whether its centre sees all of them.
-use mathlib.Core.Path.{◌≡◌, refl, sym, ap, subst}
-use mathlib.Core.Bool.{Bool, true, false, ◌&&◌}
-use mathlib.Core.Logic.{◌⊎◌, inl, inr, ◌↔◌}
+use mathlib.Core.Path.{◌≡◌, refl, sym, subst}
+use mathlib.Core.Bool.{Bool, ◌&&◌}
+use mathlib.Core.Logic.{inl, inr}
 use mathlib.Core.List.{List, [], ◌∷◌}
-use Prim.Native.Nat.{ℕ, suc, ◌+◌, ◌%◌, ◌≤◌, ◌<◌}
+use Prim.Native.Nat.{ℕ, suc, ◌%◌, ◌≤◌, ◌<◌}
 use native.Mathlib.Omega.{arith}
 use lib.Dec.{T, eqb, eqb→eq, eqb_refl, ltb, ltb→lt, lt→ltb}
 use lib.Ieee.Fits.{and_i, and_l, and_r}
 use lib.ListN.{length}
-use Rattle.limits.specs.Limits.{place}
 use Rattle.outline.specs.Tells.{Tells, and_tells, as_well, eq_tells}
 use Rattle.rules.specs.Lists.{In, Rising}
 use Rattle.rules.specs.Cutting.{Near, last}

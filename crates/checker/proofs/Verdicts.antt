@@ -7,7 +7,7 @@ use Prim.Native.Nat.{ℕ, ◌≤◌}
 use native.Mathlib.Omega.{arith}
 use lib.IntN.{ℤ}
 use lib.ListN.{length}
-use Rattle.limits.specs.Limits.{row, most_corners, all_cells}
+use Rattle.limits.specs.Limits.{most_corners, all_cells}
 use Rattle.outline.specs.Drawing.{corners}
 use Rattle.outline.specs.Tells.{if_yes, if_no}
 use Rattle.drawing.specs.Sight.{Seen}
@@ -16,10 +16,10 @@ use Rattle.pair.specs.Passing.{SoundPair, equally_many}
 use Rattle.pair.proofs.Passing.{pair_passes}
 use Rattle.rules.specs.Lists.{In}
 use Rattle.rules.specs.Refusals.{among}
-use Rattle.checker.specs.Checks.{says, Entry, laid, Listed, IsList, Sight, sight_in, FirstFailed, of_pieces}
+use Rattle.checker.specs.Checks.{says, IsList, sight_in, FirstFailed, of_pieces}
 use Rattle.checker.specs.Checks.{OfBytes, ChecksList}
 use Rattle.checker.specs.Unique.{laid_one}
-use Rattle.checker.specs.Parts.{Corners, Readable, TellsCutting, in_cells, FirstFault}
+use Rattle.checker.specs.Parts.{Readable, TellsCutting, in_cells, FirstFault}
 use Rattle.checker.specs.declared.flat.Verdict.{Verdict}
 use Rattle.checker.proofs.Sights.{Agree, cells_agree, bytes_same}
 
@@ -51,18 +51,6 @@ module _ {n : ℕ} {bytes : List ℕ} (first second : List ℕ) {r : Bool} (l : 
           (laid_one f.0 l.0 (sym f.1 ∙ l.1.are)) f.2
 
 -- ---- the pair
--- of its numbers, the one that is none of the others
-pub eight : (k : ℕ) → In k (1 ∷ 3 ∷ 4 ∷ 5 ∷ 6 ∷ 7 ∷ 8 ∷ []) →
-    (((((Unit {0} × ¬ (k ≡ 1)) × ¬ (k ≡ 3)) × ¬ (k ≡ 4)) × ¬ (k ≡ 5)) × ¬ (k ≡ 6)) × ¬ (k ≡ 7) → k ≡ 8
-eight k (inl e) n = absurd (n.0.0.0.0.0.1 e)
-eight k (inr (inl e)) n = absurd (n.0.0.0.0.1 e)
-eight k (inr (inr (inl e))) n = absurd (n.0.0.0.1 e)
-eight k (inr (inr (inr (inl e)))) n = absurd (n.0.0.1 e)
-eight k (inr (inr (inr (inr (inl e))))) n = absurd (n.0.1 e)
-eight k (inr (inr (inr (inr (inr (inl e)))))) n = absurd (n.1 e)
-eight k (inr (inr (inr (inr (inr (inr (inl e))))))) n = e
-eight k (inr (inr (inr (inr (inr (inr (inr i))))))) n = absurd i
-
 module _ {first second : List ℤ} {number : ℕ} (checks : Checks first second number) where
   -- a number that is not 0 is one of its lines'
   pub refusal : ¬ (number ≡ 0) → In number (1 ∷ 3 ∷ 4 ∷ 5 ∷ 6 ∷ 7 ∷ 8 ∷ [])

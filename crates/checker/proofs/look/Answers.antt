@@ -1,7 +1,4 @@
 -- `checker::look`: what is refused for the pair, and what the bytes bring.
-use mathlib.Core.Path.{◌∙◌}
-use native.Mathlib.Omega.{arith}
-use borrow.Author.Rules.{rules}
 use Rattle.checker.proofs.Verdicts.{refusal, refused_pair, sound, first_cells, second_cells, by_cells}
 use Rattle.checker.proofs.look.Goals as goal
 

@@ -1,8 +1,6 @@
 -- `checker::of_bytes`: a law for each return.
 use mathlib.Core.Path.{refl}
-use mathlib.Core.Logic.{inl, inr}
-use borrow.Author.Rules.{rules}
-use borrow.Author.Tests.{not-true, not-false}
+use mathlib.Core.Logic.{inl}
 use Rattle.outline.specs.Tells.{if_yes, if_no}
 use Rattle.checker.proofs.Verdicts.{readable, no_cutting, first_at_fault}
 use Rattle.checker.proofs.of_bytes.Goals as goal

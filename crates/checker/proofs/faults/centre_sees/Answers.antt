@@ -1,11 +1,7 @@
 -- `checker::faults::centre_sees`: all is decided by the corners from i on.
-use mathlib.Core.Path.{◌≡◌, refl, sym, ◌∙◌}
+use mathlib.Core.Path.{sym, ◌∙◌}
 use mathlib.Core.List.{List}
 use Prim.Native.Nat.{ℕ}
-use borrow.Author.Rules.{rules}
-use borrow.Author.Tests.{not-true, not-false}
-use lib.ListN.{drop}
-use Rattle.limits.specs.Limits.{row}
 use Rattle.rules.specs.Cells.{centre_sees}
 use Rattle.rules.proofs.Lays.{all}
 use Rattle.outline.specs.Tells.{Tells}

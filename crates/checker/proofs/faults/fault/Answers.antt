@@ -1,8 +1,6 @@
 -- `checker::faults::fault` meets its contract: of the four questions the first that fails.
 use mathlib.Core.Path.{refl}
 use mathlib.Core.Logic.{inl, inr}
-use borrow.Author.Rules.{rules}
-use borrow.Author.Tests.{not-true, not-false}
 use Rattle.outline.specs.Tells.{if_yes, if_no}
 use Rattle.checker.proofs.faults.fault.Goals as goal
 

@@ -1,13 +1,7 @@
 -- `checker::faults::first_fault`: the pieces before `at` have no fault, and the next one is the `place`-th.
-use mathlib.Core.Path.{refl, sym, ◌∙◌}
-use mathlib.Core.List.{[], ◌∷◌}
-use Prim.Native.Nat.{◌+◌, ◌-◌, ◌≤◌}
 use native.Mathlib.Omega.{arith}
-use lib.ListN.{length}
-use types.Run.{miss}
-use Rattle.checker.specs.Parts.{in_cells}
-use Rattle.checker.proofs.Reading.{Walk, Next, walk_none, walk_next, next_fits, next_corners}
-use Rattle.checker.proofs.Passes.{NoFault, fault_more, fault_found, fault_none}
+use Rattle.checker.proofs.Reading.{walk_none, walk_next, next_fits, next_corners}
+use Rattle.checker.proofs.Passes.{fault_more, fault_found, fault_none}
 use Rattle.checker.proofs.faults.first_fault.Goals as goal
 
 pub loop-at-init : goal.loop-at-init
@@ -62,8 +56,7 @@ loop-at-smaller c =
 
 pub loop-at-preserved : goal.loop-at-preserved
 loop-at-preserved c =
-    let n = walk_next c.loop-at.invariant.0 c.loop-at-test.true in
-    (
+    let n = walk_next c.loop-at.invariant.0 c.loop-at-test.true in (
       fault_more c.args.first.now c.args.second.now
           c.loop-at.invariant.0 n c.wide.ensures c.wide-in-loop-at.ensures c.fault-found.result
           c.fault-found.ensures c.in-Accepted.is,

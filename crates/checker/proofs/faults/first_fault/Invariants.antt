@@ -1,13 +1,9 @@
 -- `checker::faults::first_fault`: the pieces before `at` have no fault, and the next one is the `place`-th.
-use mathlib.Core.Path.{refl, sym, ◌∙◌}
-use mathlib.Core.List.{[], ◌∷◌}
-use Prim.Native.Nat.{◌+◌, ◌-◌, ◌≤◌}
-use native.Mathlib.Omega.{arith}
+use Prim.Native.Nat.{◌-◌, ◌≤◌}
 use lib.ListN.{length}
-use types.Run.{miss}
 use Rattle.checker.specs.Parts.{in_cells}
-use Rattle.checker.proofs.Reading.{Walk, Next, walk_none, walk_next, next_fits, next_corners}
-use Rattle.checker.proofs.Passes.{NoFault, fault_more, fault_found, fault_none}
+use Rattle.checker.proofs.Reading.{Walk}
+use Rattle.checker.proofs.Passes.{NoFault}
 use Rattle.checker.proofs.faults.first_fault.Given as goal
 
 abbrev pub invariant-loop-at : goal.invariant-loop-at

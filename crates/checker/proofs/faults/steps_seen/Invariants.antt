@@ -1,11 +1,8 @@
 -- `checker::faults::steps_seen`: all is decided by the corners from i on, after x.
-use mathlib.Core.Path.{sym, ◌∙◌}
 use Prim.Native.Nat.{◌-◌, ◌<◌}
-use borrow.Author.Rules.{rules}
-use borrow.Author.Tests.{not-true, not-false}
 use Rattle.limits.specs.Limits.{row}
 use Rattle.checker.specs.Parts.{strictly_sees}
-use Rattle.checker.proofs.Along.{Along, along_none, along_more, along_fails, along_end, corner_small, some_corner}
+use Rattle.checker.proofs.Along.{Along}
 use Rattle.checker.proofs.faults.steps_seen.Given as goal
 
 abbrev pub invariant-loop-i : goal.invariant-loop-i

@@ -1,7 +1,6 @@
 -- `checker::faults::strictly` meets its contract.
 use mathlib.Core.Path.{ap}
 use Prim.Native.Nat.{ℕ, ◌%◌}
-use borrow.Author.Rules.{rules}
 use lib.Dec.{eqb}
 use lib.ListN.{get_or}
 use Rattle.checker.proofs.faults.strictly.Goals as goal

@@ -1,5 +1,4 @@
 -- `checker::flat::iravikkon_check` meets its contract.
-use borrow.Author.Rules.{rules}
 use Rattle.checker.proofs.flat.iravikkon_check.Goals as goal
 
 pub returns : goal.returns

@@ -1,5 +1,4 @@
 -- `checker::flat::says_at` meets its contract.
-use borrow.Author.Rules.{rules}
 use mathlib.Core.Path.{ap}
 use Prim.Native.Nat.{ℕ}
 use Rattle.checker.specs.declared.flat.Verdict.{Verdict}

@@ -1,6 +1,5 @@
 -- `checker::lines::closing` meets its contract.
 use mathlib.Core.Path.{sym, ap₂, ◌∙◌}
-use borrow.Author.Rules.{rules}
 use native.Mathlib.Omega.{arith}
 use Rattle.limits.specs.Limits.{place}
 use Rattle.checker.proofs.Along.{corner_small, some_corner, closing_is}
@@ -12,9 +11,8 @@ line-requires c =
     (corner_small s c.wide.ensures (some_corner s), corner_small s c.wide-2.ensures (omega (arith, s.three)))
 
 pub returns : goal.returns
-returns c =
-    (
-      c.line.ensures.0 ∙ ap₂ place c.wide.ensures c.wide-2.ensures
-          ∙ sym (closing_is c.args.corners.now (some_corner c.requires)),
-      c.line.ensures.1,
-    )
+returns c = (
+  c.line.ensures.0 ∙ ap₂ place c.wide.ensures c.wide-2.ensures
+      ∙ sym (closing_is c.args.corners.now (some_corner c.requires)),
+  c.line.ensures.1,
+)

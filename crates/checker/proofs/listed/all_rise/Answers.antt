@@ -1,10 +1,6 @@
 -- `checker::listed::all_rise`: all is decided by the corners from i on, after x.
 use mathlib.Core.Path.{sym, ◌∙◌}
-use Prim.Native.Nat.{◌-◌}
-use borrow.Author.Rules.{rules}
-use borrow.Author.Tests.{not-true, not-false}
-use Rattle.checker.specs.Parts.{rises}
-use Rattle.checker.proofs.Along.{Along, along_none, along_more, along_fails, along_end}
+use Rattle.checker.proofs.Along.{along_none, along_more, along_fails, along_end}
 use Rattle.checker.proofs.listed.all_rise.Goals as goal
 
 pub loop-i-init : goal.loop-i-init

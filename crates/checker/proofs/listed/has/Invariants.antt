@@ -1,12 +1,9 @@
 -- `checker::listed::has`: it is decided by the corners from i on.
-use mathlib.Core.Path.{◌≡◌, refl}
+use mathlib.Core.Path.{◌≡◌}
 use Prim.Native.Nat.{◌-◌}
-use borrow.Author.Rules.{rules}
-use borrow.Author.Tests.{eq-eqb, ne_eqb}
 use lib.Dec.{eqb}
 use lib.ListN.{drop}
 use Rattle.rules.proofs.Lays.{some}
-use Rattle.checker.proofs.Along.{some_more, some_found, some_end}
 use Rattle.checker.proofs.listed.has.Given as goal
 
 abbrev pub invariant-loop-i : goal.invariant-loop-i

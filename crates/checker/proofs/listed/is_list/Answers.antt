@@ -1,11 +1,8 @@
 -- `checker::listed::is_list`: the bytes from `at` on decide.
-use Prim.Native.Nat.{◌+◌, ◌-◌, ◌≤◌}
 use native.Mathlib.Omega.{arith}
-use borrow.Author.Tests.{not-true, not-false}
-use lib.ListN.{length, get_or}
 use Rattle.outline.specs.Tells.{never, if_yes, if_no}
 use Rattle.checker.specs.Parts.{PieceAt}
-use Rattle.checker.proofs.Listing.{Listing, listing_none, listing_more, listing_fails, listing_end}
+use Rattle.checker.proofs.Listing.{listing_none, listing_more, listing_fails, listing_end}
 use Rattle.checker.proofs.listed.is_list.Goals as goal
 
 pub loop-at-init : goal.loop-at-init
@@ -22,7 +19,7 @@ returns-then-not-is_piece c =
 pub overflow_add-at : goal.overflow_add-at
 overflow_add-at c =
     let piece : PieceAt c.args.n c.args.list.now c.loop-at.at =
-        if_yes c.is_piece.ensures c.if-not-is_piece.false in
+    if_yes c.is_piece.ensures c.if-not-is_piece.false in
     omega (arith, piece.fits)
 
 pub bounds-list-at : goal.bounds-list-at
@@ -31,7 +28,7 @@ bounds-list-at c = c.loop-at-test.true
 pub overflow_add-at-in-loop-at : goal.overflow_add-at-in-loop-at
 overflow_add-at-in-loop-at c =
     let piece : PieceAt c.args.n c.args.list.now c.loop-at.at =
-        if_yes c.is_piece.ensures c.if-not-is_piece.false in
+    if_yes c.is_piece.ensures c.if-not-is_piece.false in
     omega (arith, piece.fits, c.wide.ensures)
 
 pub loop-at-smaller : goal.loop-at-smaller
@@ -40,7 +37,7 @@ loop-at-smaller c = omega (arith, c.loop-at-test.true)
 pub loop-at-preserved : goal.loop-at-preserved
 loop-at-preserved c =
     let piece : PieceAt c.args.n c.args.list.now c.loop-at.at =
-        if_yes c.is_piece.ensures c.if-not-is_piece.false in
+    if_yes c.is_piece.ensures c.if-not-is_piece.false in
     listing_more c.loop-at.invariant c.loop-at-test.true c.wide.ensures piece
 
 pub returns : goal.returns

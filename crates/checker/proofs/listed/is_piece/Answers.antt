@@ -1,9 +1,6 @@
 -- `checker::listed::is_piece`: a law for each return.
 use mathlib.Core.Path.{sym, ◌∙◌}
-use Prim.Native.Nat.{◌+◌}
 use native.Mathlib.Omega.{arith}
-use borrow.Author.Rules.{rules}
-use borrow.Author.Tests.{not-true, not-false}
 use Rattle.outline.specs.Tells.{never}
 use Rattle.checker.proofs.Listing.{too_short, few_corners, many_corners, cut_short}
 use Rattle.checker.proofs.Listing.{taken, no_rise, with_centre}

@@ -1,11 +1,8 @@
 -- `checker::nested::all_fit`: the pieces from `at` on decide.
-use mathlib.Core.Path.{refl, sym, ◌∙◌}
-use Prim.Native.Nat.{◌+◌, ◌-◌, ◌≤◌}
+use mathlib.Core.Path.{refl}
 use native.Mathlib.Omega.{arith}
-use borrow.Author.Tests.{not-true, not-false}
-use lib.ListN.{length}
-use Rattle.checker.proofs.Reading.{Walk, Next, walk_none, walk_next, next_fits, next_corners}
-use Rattle.checker.proofs.Passes.{Fitting, fitting_more, fitting_fails, fitting_end}
+use Rattle.checker.proofs.Reading.{walk_none, walk_next, next_fits, next_corners}
+use Rattle.checker.proofs.Passes.{fitting_more, fitting_fails, fitting_end}
 use Rattle.checker.proofs.nested.all_fit.Goals as goal
 
 pub loop-at-init : goal.loop-at-init

@@ -2,8 +2,6 @@
 use mathlib.Core.Path.{sym, ap, ◌∙◌}
 use mathlib.Core.Bool.{Bool, not, ◌&&◌}
 use Prim.Native.Nat.{ℕ}
-use borrow.Author.Rules.{rules}
-use borrow.Author.Tests.{not-true, not-false}
 use lib.Dec.{eqb}
 use lib.ListN.{get_or}
 use Rattle.checker.specs.Parts.{closed}

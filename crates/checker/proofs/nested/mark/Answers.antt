@@ -1,11 +1,8 @@
 -- `checker::nested::mark`: the pieces from `at` on are still to be marked.
-use mathlib.Core.Path.{◌≡◌, refl, ◌∙◌}
-use Prim.Native.Nat.{◌+◌, ◌-◌, ◌≤◌}
+use mathlib.Core.Path.{refl, ◌∙◌}
 use native.Mathlib.Omega.{arith}
-use borrow.Author.Tests.{not-true, not-false}
-use lib.ListN.{length}
-use Rattle.checker.proofs.Reading.{Walk, Next, walk_none, walk_next, next_fits, next_corners}
-use Rattle.checker.proofs.Passes.{Marked, marked_more, marked_fails, marked_end}
+use Rattle.checker.proofs.Reading.{walk_none, walk_next, next_fits, next_corners}
+use Rattle.checker.proofs.Passes.{marked_more, marked_fails, marked_end}
 use Rattle.checker.proofs.nested.mark.Goals as goal
 
 pub loop-at-init : goal.loop-at-init

@@ -1,11 +1,9 @@
 -- `checker::nested::mark`: the pieces from `at` on are still to be marked.
-use mathlib.Core.Path.{◌≡◌, refl, ◌∙◌}
-use Prim.Native.Nat.{◌+◌, ◌-◌, ◌≤◌}
-use native.Mathlib.Omega.{arith}
-use borrow.Author.Tests.{not-true, not-false}
+use mathlib.Core.Path.{◌≡◌}
+use Prim.Native.Nat.{◌-◌}
 use lib.ListN.{length}
-use Rattle.checker.proofs.Reading.{Walk, Next, walk_none, walk_next, next_fits, next_corners}
-use Rattle.checker.proofs.Passes.{Marked, marked_more, marked_fails, marked_end}
+use Rattle.checker.proofs.Reading.{Walk}
+use Rattle.checker.proofs.Passes.{Marked}
 use Rattle.checker.proofs.nested.mark.Given as goal
 
 abbrev pub invariant-loop-at : goal.invariant-loop-at

@@ -1,10 +1,8 @@
 -- `checker::nested::mark_steps`: the steps from i on, after x, are still to be marked.
-use mathlib.Core.Path.{◌∙◌}
-use Prim.Native.Nat.{◌-◌, ◌<◌}
+use Prim.Native.Nat.{◌<◌}
 use native.Mathlib.Omega.{arith}
-use borrow.Author.Rules.{rules}
 use Rattle.limits.specs.Limits.{row}
-use Rattle.checker.proofs.Along.{Marking, marking_none, marking_more, marking_end, corner_small, some_corner}
+use Rattle.checker.proofs.Along.{marking_none, marking_more, marking_end, corner_small, some_corner}
 use Rattle.checker.proofs.nested.mark_steps.Goals as goal
 
 pub loop-i-init : goal.loop-i-init
@@ -15,8 +13,8 @@ loop-i-init c =
 pub line-cell-requires : goal.line-cell-requires
 line-cell-requires c =
     let small : c.wide-y.result < row =
-        corner_small c.requires.0 c.wide-y.ensures
-        c.loop-i-test.true in
+    corner_small c.requires.0 c.wide-y.ensures
+    c.loop-i-test.true in
     (c.loop-i.invariant.1, small)
 
 pub bounds-steps-cell : goal.bounds-steps-cell
@@ -27,9 +25,8 @@ bounds-steps-cell c =
 pub loop-i-preserved : goal.loop-i-preserved
 loop-i-preserved c =
     let small : c.wide-y.result < row =
-        corner_small c.requires.0 c.wide-y.ensures
-        c.loop-i-test.true in
-    (
+    corner_small c.requires.0 c.wide-y.ensures
+    c.loop-i-test.true in (
       marking_more c.loop-i.invariant.0 c.wide-y.ensures c.loop-i-test.true
           c.line-cell.ensures.0,
       small,

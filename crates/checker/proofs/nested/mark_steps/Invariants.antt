@@ -1,10 +1,7 @@
 -- `checker::nested::mark_steps`: the steps from i on, after x, are still to be marked.
-use mathlib.Core.Path.{◌∙◌}
 use Prim.Native.Nat.{◌-◌, ◌<◌}
-use native.Mathlib.Omega.{arith}
-use borrow.Author.Rules.{rules}
 use Rattle.limits.specs.Limits.{row}
-use Rattle.checker.proofs.Along.{Marking, marking_none, marking_more, marking_end, corner_small, some_corner}
+use Rattle.checker.proofs.Along.{Marking}
 use Rattle.checker.proofs.nested.mark_steps.Given as goal
 
 abbrev pub invariant-loop-i : goal.invariant-loop-i

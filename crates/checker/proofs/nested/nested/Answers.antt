@@ -1,7 +1,5 @@
 -- `checker::nested::nested`: what the two tables tell of 22.
 use native.Mathlib.Omega.{arith}
-use borrow.Author.Rules.{rules}
-use borrow.Author.Tests.{not-true, not-false}
 use lib.ListN.{length-set}
 use Prim.Native.Nat.{◌-◌}
 use Rattle.checker.proofs.Verdicts.{readable}

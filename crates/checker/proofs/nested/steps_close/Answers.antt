@@ -1,11 +1,8 @@
 -- `checker::nested::steps_close`: all is decided by the corners from i on, after x.
 use mathlib.Core.Path.{sym, ◌∙◌}
-use Prim.Native.Nat.{◌-◌, ◌<◌}
-use borrow.Author.Rules.{rules}
-use borrow.Author.Tests.{not-true, not-false}
+use Prim.Native.Nat.{◌<◌}
 use Rattle.limits.specs.Limits.{row}
-use Rattle.checker.specs.Parts.{closes}
-use Rattle.checker.proofs.Along.{Along, along_none, along_more, along_fails, along_end, corner_small, some_corner}
+use Rattle.checker.proofs.Along.{along_none, along_more, along_fails, along_end, corner_small, some_corner}
 use Rattle.checker.proofs.nested.steps_close.Goals as goal
 
 pub loop-i-init : goal.loop-i-init
@@ -16,8 +13,8 @@ loop-i-init c =
 pub closes-requires : goal.closes-requires
 closes-requires c =
     let small : c.wide-y.result < row =
-        corner_small c.requires.1 c.wide-y.ensures
-        c.loop-i-test.true in
+    corner_small c.requires.1 c.wide-y.ensures
+    c.loop-i-test.true in
     let loop = c.loop-i in
     (c.requires.0, loop.invariant.1, small)
 
@@ -29,9 +26,8 @@ returns-then-not-closes c =
 pub loop-i-preserved : goal.loop-i-preserved
 loop-i-preserved c =
     let small : c.wide-y.result < row =
-        corner_small c.requires.1 c.wide-y.ensures
-        c.loop-i-test.true in
-    (
+    corner_small c.requires.1 c.wide-y.ensures
+    c.loop-i-test.true in (
       along_more c.loop-i.invariant.0 c.wide-y.ensures c.loop-i-test.true
           (sym c.closes.ensures ∙ c.if-not-closes.false),
       small,
