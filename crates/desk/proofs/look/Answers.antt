@@ -17,9 +17,9 @@ returns-then-number-eq1 c =
 pub overflow_sub-first : goal.overflow_sub-first
 overflow_sub-first c =
     let both : let s = c.args in
-        Alike s.first.now s.second.now =
-        alike c.args.room.now c.sight-number.ensures.checks
-        c.if-number-eq1.false in
+    Alike s.first.now s.second.now =
+    alike c.args.room.now c.sight-number.ensures.checks
+    c.if-number-eq1.false in
     omega (arith, both.enough)
 
 pub returns-then-room-first : goal.returns-then-room-first
@@ -30,16 +30,16 @@ returns-then-room-first c =
 pub returns-then-number-ne0 : goal.returns-then-number-ne0
 returns-then-number-ne0 c =
     let roomy : let s = c.args in
-        Roomy (corners s.first.now) (length s.room.now) =
-        omega (arith, c.if-room-first.false) in
+    Roomy (corners s.first.now) (length s.room.now) =
+    omega (arith, c.if-room-first.false) in
     lines_3_to_8 _ c.sight-number.ensures.checks c.if-number-eq1.false _
     c.refused-then-number-ne0.ensures c.if-number-ne0.true roomy
 
 pub returns : goal.returns
 returns c =
     let roomy : let s = c.args in
-        Roomy (corners s.first.now) (length s.room.now) =
-        omega (arith, c.if-room-first.false) in
+    Roomy (corners s.first.now) (length s.room.now) =
+    omega (arith, c.if-room-first.false) in
     let checks = c.sight-number.ensures in
     let zero = c.if-number-ne0.false in
     let room = c.args.room.now in

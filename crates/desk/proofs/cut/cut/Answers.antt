@@ -17,24 +17,24 @@ returns-then-not-served c =
 pub overflow_mul-n : goal.overflow_mul-n
 overflow_mul-n c =
     let within : (let a = c.args in Served a.n a.first.now a.second.now) =
-        if_yes c.served.ensures c.if-not-served.false in
+    if_yes c.served.ensures c.if-not-served.false in
     let s = within in search rules
 
 pub overflow_sub-n : goal.overflow_sub-n
 overflow_sub-n c =
     let within : (let a = c.args in Served a.n a.first.now a.second.now) =
-        if_yes c.served.ensures c.if-not-served.false in
+    if_yes c.served.ensures c.if-not-served.false in
     omega (arith, within.enough)
 
 pub returns-then-room-n : goal.returns-then-room-n
 returns-then-room-n c =
     let within : (let a = c.args in Served a.n a.first.now a.second.now) =
-        if_yes c.served.ensures c.if-not-served.false in
+    if_yes c.served.ensures c.if-not-served.false in
     cut_2 _ c.refused-then-room-n.ensures within (omega (arith, c.if-room-n.true))
 
 pub search-requires : goal.search-requires
 search-requires c =
     let within : (let a = c.args in Served a.n a.first.now a.second.now) =
-        if_yes c.served.ensures c.if-not-served.false in
+    if_yes c.served.ensures c.if-not-served.false in
     let s = within in
     (s, omega (arith, c.if-room-n.false, s.enough), length-replicate {0} {A = ℕ} all_cells 0)
