@@ -1,7 +1,6 @@
 -- `drawing::tell` meets its contract.
 use mathlib.Core.Path.{refl}
 use native.Mathlib.Omega.{arith}
-use borrow.Author.Rules.{rules}
 use Rattle.drawing.specs.Parts.{within_limits}
 use Rattle.drawing.proofs.tell.Goals as goal
 

@@ -1,11 +1,10 @@
 -- `drawing::beginnings::beginnings` meets its contract: the corners before i are told.
 use mathlib.Core.Path.{◌≡◌}
-use Prim.Native.Nat.{◌-◌, ◌≤◌, ◌<◌}
+use Prim.Native.Nat.{◌≤◌, ◌<◌}
 use native.Mathlib.Omega.{arith}
 use lib.ListN.{length}
 use Rattle.limits.specs.Limits.{all_cells}
-use Rattle.outline.specs.Drawing.{corners, Beside}
-use Rattle.drawing.specs.Table.{Begun, Grows}
+use Rattle.outline.specs.Drawing.{corners}
 use Rattle.drawing.proofs.Growing.{grows_on}
 use Rattle.drawing.proofs.Begun.{begun_first, begun_all}
 use Rattle.drawing.proofs.beginnings.beginnings.Goals as goal
@@ -16,13 +15,13 @@ loop-i-init c = (omega arith, begun_first)
 pub offset_bounds-known-i : goal.offset_bounds-known-i
 offset_bounds-known-i c =
     let few : c.loop-i.i < 64 =
-        omega (arith, c.requires.limits.0.shaped.few, c.loop-i-test.true) in
+    omega (arith, c.requires.limits.0.shaped.few, c.loop-i-test.true) in
     omega (arith, few)
 
 pub bounds-known-i : goal.bounds-known-i
 bounds-known-i c =
     let few : c.loop-i.i < 64 =
-        omega (arith, c.requires.limits.0.shaped.few, c.loop-i-test.true) in
+    omega (arith, c.requires.limits.0.shaped.few, c.loop-i-test.true) in
     few
 
 pub along_sides-requires : goal.along_sides-requires
@@ -35,7 +34,7 @@ along_sides-requires c =
 pub overflow_step-i : goal.overflow_step-i
 overflow_step-i c =
     let few : c.loop-i.i < 64 =
-        omega (arith, c.requires.limits.0.shaped.few, c.loop-i-test.true) in
+    omega (arith, c.requires.limits.0.shaped.few, c.loop-i-test.true) in
     omega (arith, few)
 
 pub loop-i-smaller : goal.loop-i-smaller

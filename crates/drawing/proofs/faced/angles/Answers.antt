@@ -1,9 +1,9 @@
 -- `drawing::faced::angles` meets its contract: after t steps the masks tell of the corners from n - t on.
 use mathlib.Core.Path.{◌≡◌}
-use Prim.Native.Nat.{ℕ, ◌+◌, ◌-◌, ◌≤◌}
+use Prim.Native.Nat.{ℕ, ◌+◌, ◌-◌}
 use native.Mathlib.Omega.{arith}
 use lib.Dec.{eqb}
-use Rattle.whole.specs.Masks.{Made, made_none, made_more, made_all}
+use Rattle.whole.specs.Masks.{made_none, made_more, made_all}
 use Rattle.outline.specs.Tells.{eq_tells}
 use Rattle.drawing.specs.Known.{need_of}
 use Rattle.drawing.proofs.Machine.{digit, digit_fits, double_fits}
@@ -30,7 +30,7 @@ overflow_mul-two c = record { fits = double_fits c.loop-t-test.true c.requires c
 pub overflow_add-two : goal.overflow_add-two
 overflow_add-two c =
     let need : ℕ =
-        need_of c.args.known (c.args.n - (c.loop-t.t + 1)) in
+    need_of c.args.known (c.args.n - (c.loop-t.t + 1)) in
     let two = eqb need 2 in
     record { fits = digit_fits c.loop-t-test.true c.requires c.loop-t.invariant.1 two }
 
@@ -40,7 +40,7 @@ overflow_mul-one c = record { fits = double_fits c.loop-t-test.true c.requires c
 pub overflow_add-one : goal.overflow_add-one
 overflow_add-one c =
     let need : ℕ =
-        need_of c.args.known (c.args.n - (c.loop-t.t + 1)) in
+    need_of c.args.known (c.args.n - (c.loop-t.t + 1)) in
     let one = eqb need 1 in
     record { fits = digit_fits c.loop-t-test.true c.requires c.loop-t.invariant.2 one }
 

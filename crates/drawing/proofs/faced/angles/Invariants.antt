@@ -1,12 +1,8 @@
 -- `drawing::faced::angles` meets its contract: after t steps the masks tell of the corners from n - t on.
 use mathlib.Core.Path.{◌≡◌}
-use Prim.Native.Nat.{ℕ, ◌+◌, ◌-◌, ◌≤◌}
-use native.Mathlib.Omega.{arith}
-use lib.Dec.{eqb}
-use Rattle.whole.specs.Masks.{Made, made_none, made_more, made_all}
-use Rattle.outline.specs.Tells.{eq_tells}
+use Prim.Native.Nat.{◌-◌, ◌≤◌}
+use Rattle.whole.specs.Masks.{Made}
 use Rattle.drawing.specs.Known.{need_of}
-use Rattle.drawing.proofs.Machine.{digit, digit_fits, double_fits}
 use Rattle.drawing.proofs.faced.angles.Given as goal
 
 abbrev pub invariant-loop-t : goal.invariant-loop-t

@@ -1,17 +1,15 @@
 -- `drawing::seeing::look` meets its contract.
-use mathlib.Core.Path.{◌≡◌, refl}
+use mathlib.Core.Path.{refl}
 use mathlib.Core.Logic.{◌⊎◌, inl, inr}
 use mathlib.Core.List.{List}
 use Prim.Native.Nat.{ℕ, ◌<◌}
 use lib.IntN.{ℤ}
-use borrow.Author.Tests.{not-true, not-false}
 use Rattle.outline.specs.Drawing.{Sound, corners, Angle, Beside}
 use Rattle.outline.specs.InOrOn.{CentreSees}
 use Rattle.outline.specs.Tells.{if_yes, if_no}
 use Rattle.outline.specs.Seeing.{beside_or}
 use Rattle.outline.proofs.Begins.{Begins, inside_or_along}
 use Rattle.drawing.specs.Table.{Early}
-use borrow.Author.Rules.{rules}
 use Rattle.drawing.proofs.seeing.look.Goals as goal
 
 pub angle-requires : goal.angle-requires

@@ -1,6 +1,6 @@
 -- `drawing::segment::beyond` meets its contract.
 -- one comparison, as the machine makes it
-use mathlib.Core.Bool.{Bool, ◌&&◌}
+use mathlib.Core.Bool.{Bool}
 use mathlib.Core.Logic.{inl}
 use lib.IntN.{ℤ}
 use lib.Signed.{lt_z, ◌<ℤ◌}
@@ -8,7 +8,6 @@ use mir.Syntax.{w64}
 use mir.Val.{SFits}
 use mir.Facts.{to_z-of_z}
 use Rattle.outline.specs.Tells.{Tells, if_yes, if_no, surely, never, and_tells, or_tells}
-use Rattle.outline.specs.FarApart.{Below}
 use Rattle.drawing.proofs.Machine.{back, by_lt}
 use Rattle.drawing.proofs.segment.beyond.Goals as goal
 

@@ -3,7 +3,6 @@ use mathlib.Core.Path.{refl}
 use mathlib.Core.Logic.{◌⊎◌, inl, inr}
 use lib.IntN.{ℤ, pos}
 use lib.Signed.{◌≤ℤ◌, ◌<ℤ◌, clash_ℤ}
-use borrow.Author.Rules.{rules}
 use Rattle.whole.specs.Bounds.{le_yes, le_no}
 use Rattle.outline.specs.Tells.{surely}
 use Rattle.drawing.proofs.Machine.{by_le, held}
