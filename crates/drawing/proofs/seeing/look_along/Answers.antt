@@ -43,7 +43,10 @@ touched-requires c =
     let differ : let s = c.args in ¬ (corner s.xy.now s.i ≡ corner s.xy.now s.j) =
     inside_apart c.args.xy.now c.args.i c.args.j c.requires.angle.0 in
     let touches = c.in-Touched.ensures in
-    record { limits = c.requires.limits; k_bound = (here.0, record { differ = differ; is_open = here.1; touches = touches }) }
+    record {
+      limits = c.requires.limits;
+      k_bound = (here.0, record { differ = differ; is_open = here.1; touches = touches });
+    }
 
 pub overflow_cast-result : goal.overflow_cast-result
 overflow_cast-result c =
