@@ -14,7 +14,7 @@ returns-then-not-alike c =
 pub returns-then-failed-ne0 : goal.returns-then-failed-ne0
 returns-then-failed-ne0 c =
     let alike : let s = c.args in Alike s.first.now s.second.now =
-        if_yes c.alike.ensures c.if-not-alike.false in
+    if_yes c.alike.ensures c.if-not-alike.false in
     let told = c.sight.ensures in
     record {
       checks = first_decides alike c.sight.result told.judged _ c.number-failed.ensures c.if-failed-ne0.true;
@@ -25,7 +25,7 @@ returns-then-failed-ne0 c =
 pub returns : goal.returns
 returns c =
     let alike : let s = c.args in Alike s.first.now s.second.now =
-        if_yes c.alike.ensures c.if-not-alike.false in
+    if_yes c.alike.ensures c.if-not-alike.false in
     let told = c.sight.ensures in
     let told2 = c.sight-2.ensures in
     record {

@@ -1,9 +1,6 @@
 -- `drawing::parting::settle_row` meets its contract: the pairs with the corners before j are settled.
 use mathlib.Core.Path.{◌≡◌, subst}
-use Prim.Native.Nat.{◌≤◌, ◌<◌}
 use native.Mathlib.Omega.{arith}
-use lib.ListN.{length}
-use Rattle.limits.specs.Limits.{all_cells}
 use Rattle.outline.specs.Drawing.{corners}
 use Rattle.drawing.specs.Table.{RowSettled}
 use Rattle.drawing.proofs.Settling.{settling_none, row_more}
@@ -15,8 +12,7 @@ overflow_step-j c = let h = c.requires in omega (arith, h.limits.0.shaped.few, h
 
 pub loop-j-init : goal.loop-j-init
 loop-j-init c =
-    let h = c.requires in
-    (
+    let h = c.requires in (
       omega (arith, h.i_bound),
       record { settling = settling_none h.limits.3; row = λ q k l. absurd (omega (arith, k, l)) },
     )

@@ -1,14 +1,13 @@
 -- `drawing::table::rows` meets its contract: the pairs of the corners before i, with every corner, are decided; and of
 -- corner i those whose marks are passed.
-use mathlib.Core.Path.{◌≡◌, refl, sym, ◌∙◌}
-use Prim.Native.Nat.{◌+◌, ◌^◌, ◌≤◌, ◌<◌}
+use mathlib.Core.Path.{◌≡◌, refl}
+use Prim.Native.Nat.{◌^◌, ◌≤◌, ◌<◌}
 use native.Mathlib.Omega.{arith}
 use lib.ListN.{length}
 use Rattle.limits.specs.Limits.{all_cells}
-use Rattle.whole.specs.Bits.{bit_from, shifted_below}
+use Rattle.whole.specs.Bits.{shifted_below}
 use Rattle.whole.specs.Masks.{mark, scan_start, scan_mark, scan_less, scan_more, mark_below}
-use Rattle.outline.specs.Drawing.{corners, Angle}
-use Rattle.drawing.specs.Known.{FacedBy}
+use Rattle.outline.specs.Drawing.{corners}
 use Rattle.drawing.specs.Faced.{faced_marks}
 use Rattle.drawing.proofs.Growing.{grows_on}
 use Rattle.drawing.proofs.Rows.{row_start, row_next, row_decided, row_end, rows_first}
@@ -101,7 +100,7 @@ decide-requires c =
     let h = c.requires in
     let l = c.loop-i-test.true in
     let room : all_cells ≤ length c.loop-rest.cells =
-        omega (arith, h.all_cells_in_bounds, loop.invariant.1.size, c.loop-rest.invariant.1.size) in
+    omega (arith, h.all_cells_in_bounds, loop.invariant.1.size, c.loop-rest.invariant.1.size) in
     record {
       limits = (h.limits.0, h.limits.1, room);
       i_bound = (l, here.0, here.2);
