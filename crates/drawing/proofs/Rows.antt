@@ -122,6 +122,13 @@ row_decided {d} {i} {j} {rest} sound hi hj room fits n is (inr x) =
         let back = subst (λ z. CentreSees d z i) y.0 (subst (λ z. CentreSees d p z) y.1 s) in
         inl (inl (rw (y.0, y.1) (early_back d i j (x.0 (centre_mutual back)))))
 
+-- the corner of the next mark, k corners after i: i is inside the angle there
+pub row_next : (d : List ℤ) (i f k : ℕ) → FacedBy d i f → bit (f / 2 ^ i) k ≡ 1 → corners d ≤ 64 →
+    (i + k < corners d) × (i + k < 64) × Angle d (i + k) i
+row_next d i f k faces on few =
+    let h = faces.yes (i + k) (sym (bit_from f i k) ∙ on) in
+    (h.0, omega (arith, h.0, few), h.1)
+
 -- ---- no row is done yet
 pub rows_first : {d : List ℤ} {c : List ℕ} → Grows d (Early d) (RowsDone d 0) c c
 rows_first {d} = grows_in none

@@ -1,7 +1,7 @@
 -- The judgements of two drawings as numbers of the table, and what it says of a pair that its lines are passed.
 use Rattle.std.specs.Prelude.{◌≡◌, refl, ◌⊎◌, List, ℕ, ℤ}
 use Rattle.std.proofs.Common.{inl, inr, arith}
-use Rattle.outline.specs.Drawing.{corners, Shaped, Sound}
+use Rattle.outline.specs.Drawing.{Shaped, Sound}
 use Rattle.drawing.specs.Judging.{Because}
 use Rattle.drawing.specs.declared.Judged.{Judged}
 use Rattle.drawing.specs.declared.Judged.TheVariants as is

@@ -1,11 +1,7 @@
 -- `drawing::sight` meets its contract.
 -- the judgement, where its case is known
-use mathlib.Core.Path.{◌≡◌, subst}
-use borrow.Author.Rules.{rules}
-use Rattle.drawing.specs.Judgement.{Judgement}
 use Rattle.drawing.specs.Judging.{why}
 use Rattle.drawing.specs.Seen.{sight_kept, sight_told}
-use Rattle.drawing.specs.declared.Judged.{Judged}
 use Rattle.drawing.specs.declared.Judged.TheVariants as is
 use Rattle.drawing.proofs.sight.Goals as goal
 

@@ -1,6 +1,5 @@
 -- `pair::alike` meets its contract.
 use native.Mathlib.Omega.{arith}
-use borrow.Author.Rules.{rules}
 use lib.Dec.{leb→le, le→leb}
 use Rattle.outline.specs.Tells.{never}
 use Rattle.pair.proofs.alike.Goals as goal

@@ -1,5 +1,4 @@
 -- `pair::number` meets its contract.
-use borrow.Author.Rules.{rules}
 use Rattle.pair.proofs.number.Goals as goal
 
 pub returns-in-First : goal.returns-in-First

@@ -1,6 +1,5 @@
 -- `pair::number_from` meets its contract.
 use mathlib.Core.Path.{refl}
-use borrow.Author.Rules.{rules}
 use Rattle.pair.proofs.number_from.Goals as goal
 
 pub returns-in-NotSimple : goal.returns-in-NotSimple

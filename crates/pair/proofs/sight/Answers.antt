@@ -1,7 +1,5 @@
 -- `pair::sight` meets its contract: laws for each return.
 use native.Mathlib.Omega.{arith}
-use borrow.Author.Rules.{rules}
-use borrow.Author.Tests.{not-true, not-false}
 use Rattle.outline.specs.Tells.{if_yes, if_no}
 use Rattle.pair.specs.Pair.{Alike}
 use Rattle.pair.proofs.Laws.{not_alike, first_decides, second_decides}
@@ -17,23 +15,22 @@ pub returns-then-failed-ne0 : goal.returns-then-failed-ne0
 returns-then-failed-ne0 c =
     let alike : let s = c.args in Alike s.first.now s.second.now =
     if_yes c.alike.ensures c.if-not-alike.false in
-    let a = alike in record {
-      checks = first_decides a c.sight.result c.sight.ensures.judged _ c.number-failed.ensures
-          c.if-failed-ne0.true;
-      first_told = first_told a c.sight.ensures;
-      second_told =
-          second_untold c.if-failed-ne0.true;
+    let told = c.sight.ensures in
+    record {
+      checks = first_decides alike c.sight.result told.judged _ c.number-failed.ensures c.if-failed-ne0.true;
+      first_told = first_told alike told;
+      second_told = second_untold c.if-failed-ne0.true;
     }
 
 pub returns : goal.returns
 returns c =
     let alike : let s = c.args in Alike s.first.now s.second.now =
     if_yes c.alike.ensures c.if-not-alike.false in
-    let a = alike in record {
-      checks = second_decides a c.sight.result c.sight.ensures.judged _ _
-          c.number-failed.ensures
-          c.if-failed-ne0.false c.sight-2.result c.sight-2.ensures.judged c.number.ensures;
-      first_told =
-          first_told a c.sight.ensures;
-      second_told = second_told c.number.ensures c.sight-2.ensures;
+    let told = c.sight.ensures in
+    let told2 = c.sight-2.ensures in
+    record {
+      checks = second_decides alike c.sight.result told.judged _ _ c.number-failed.ensures c.if-failed-ne0.false
+          c.sight-2.result told2.judged c.number.ensures;
+      first_told = first_told alike told;
+      second_told = second_told c.number.ensures told2;
     }

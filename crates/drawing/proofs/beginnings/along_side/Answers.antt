@@ -4,7 +4,6 @@ use mathlib.Core.Logic.{inl, inr}
 use mathlib.Core.List.{List}
 use Prim.Native.Nat.{ℕ, ◌+◌}
 use lib.IntN.{ℤ}
-use borrow.Author.Rules.{rules}
 use Rattle.outline.specs.Drawing.{after}
 use Rattle.drawing.specs.Known.{LiesOn}
 use Rattle.drawing.specs.Table.{SideBegun, both}

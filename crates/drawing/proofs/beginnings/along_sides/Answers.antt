@@ -1,15 +1,14 @@
 -- `drawing::beginnings::along_sides` meets its contract: the sides whose marks are passed are told.
-use mathlib.Core.Path.{◌≡◌, refl}
+use mathlib.Core.Path.{refl}
 use Prim.Native.Nat.{◌≤◌, ◌<◌}
 use native.Mathlib.Omega.{arith}
 use lib.ListN.{length}
 use Rattle.limits.specs.Limits.{all_cells}
-use Rattle.whole.specs.Masks.{Scan, mark, scan_start, scan_mark, scan_less, scan_more, mark_below}
+use Rattle.whole.specs.Masks.{mark, scan_start, scan_mark, scan_less, scan_more, mark_below}
 use Rattle.outline.specs.Drawing.{corners}
 use Rattle.drawing.specs.Known.{Along}
-use Rattle.drawing.specs.Table.{Begun, Grows}
 use Rattle.drawing.proofs.Growing.{grows_on}
-use Rattle.drawing.proofs.Begun.{RowBegunTo, row_begin, row_begun, side_begun}
+use Rattle.drawing.proofs.Begun.{row_begin, row_begun, side_begun}
 use Rattle.drawing.proofs.beginnings.along_sides.Goals as goal
 
 pub loop-rest-init : goal.loop-rest-init

@@ -1,13 +1,7 @@
 -- `drawing::beginnings::beginnings` meets its contract: the corners before i are told.
-use mathlib.Core.Path.{◌≡◌}
-use Prim.Native.Nat.{◌-◌, ◌≤◌, ◌<◌}
-use native.Mathlib.Omega.{arith}
-use lib.ListN.{length}
-use Rattle.limits.specs.Limits.{all_cells}
+use Prim.Native.Nat.{◌-◌, ◌≤◌}
 use Rattle.outline.specs.Drawing.{corners, Beside}
 use Rattle.drawing.specs.Table.{Begun, Grows}
-use Rattle.drawing.proofs.Growing.{grows_on}
-use Rattle.drawing.proofs.Begun.{begun_first, begun_all}
 use Rattle.drawing.proofs.beginnings.beginnings.Given as goal
 
 abbrev pub invariant-loop-i : goal.invariant-loop-i

@@ -1,7 +1,6 @@
 -- `drawing::corners::corner` meets its contract.
 use Prim.Native.Nat.{◌+◌, ◌*◌}
 use native.Mathlib.Omega.{arith}
-use borrow.Author.Rules.{rules}
 use mir.Syntax.{w64}
 use Rattle.whole.specs.Bounds.{fit, loc, bound}
 use Rattle.drawing.proofs.Machine.{Coordinate, coordinate}

@@ -1,10 +1,8 @@
 -- `drawing::corners::in_range` meets its contract: every coordinate passed is within the limits.
-use Prim.Native.Nat.{ℕ, ◌≤◌, ◌<◌, ◌-◌}
 use native.Mathlib.Omega.{arith}
 use lib.IntN.{pos}
-use lib.ListN.{length, get_or}
-use borrow.Author.Rules.{rules, sfits_of}
-use borrow.Author.Tests.{not-true, not-false}
+use lib.ListN.{get_or}
+use borrow.Author.Rules.{sfits_of}
 use borrow.Author.Count.{below_more}
 use mir.Facts.{to_z-of_z}
 use Rattle.outline.specs.Tells.{Tells, if_yes, if_no, surely, never}

@@ -1,7 +1,6 @@
 -- `drawing::corners::near` meets its contract.
 use mathlib.Core.Path.{refl}
 use lib.Signed.{clash_ℤ}
-use borrow.Author.Rules.{rules}
 use mir.Facts.{to_z-of_z}
 use Rattle.whole.specs.Bounds.{lt_yes, lt_no}
 use Rattle.outline.specs.Tells.{never}

@@ -2,7 +2,6 @@
 use mathlib.Core.Path.{◌≡◌, refl, sym}
 use Prim.Native.Nat.{ℕ, zero, suc, ◌-◌}
 use native.Mathlib.Omega.{arith}
-use borrow.Author.Rules.{rules}
 use Rattle.outline.specs.Drawing.{prev}
 use Rattle.drawing.proofs.corners.prev.Goals as goal
 

@@ -1,6 +1,5 @@
 -- `drawing::corners::shaped` meets its contract.
 use native.Mathlib.Omega.{arith}
-use borrow.Author.Rules.{rules}
 use lib.Dec.{leb→le, le→leb}
 use Rattle.outline.specs.Tells.{never}
 use Rattle.drawing.proofs.corners.shaped.Goals as goal

@@ -1,9 +1,9 @@
 -- `drawing::faced::angles` meets its contract: after t steps the masks tell of the corners from n - t on.
 use mathlib.Core.Path.{◌≡◌}
-use Prim.Native.Nat.{ℕ, ◌+◌, ◌-◌, ◌≤◌}
+use Prim.Native.Nat.{ℕ, ◌+◌, ◌-◌}
 use native.Mathlib.Omega.{arith}
 use lib.Dec.{eqb}
-use Rattle.whole.specs.Masks.{Made, made_none, made_more, made_all}
+use Rattle.whole.specs.Masks.{made_none, made_more, made_all}
 use Rattle.outline.specs.Tells.{eq_tells}
 use Rattle.drawing.specs.Known.{need_of}
 use Rattle.drawing.proofs.Machine.{digit, digit_fits, double_fits}

@@ -1,7 +1,6 @@
 -- `drawing::faced::faced` meets its contract.
 use mathlib.Core.Path.{ap, ◌∙◌}
 use Prim.Native.Nat.{min, max}
-use borrow.Author.Rules.{rules}
 use Rattle.whole.specs.Bits.{bit}
 use Rattle.drawing.specs.Faced.{faced_at, faced_off}
 use Rattle.drawing.proofs.faced.faced.Goals as goal

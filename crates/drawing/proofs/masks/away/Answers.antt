@@ -2,7 +2,6 @@
 use mathlib.Core.Path.{◌∙◌}
 use lib.IntN.{◌-ℤ◌}
 use mir.Syntax.{w64}
-use borrow.Author.Rules.{rules}
 use Rattle.whole.specs.Bounds.{fit, loc, less, bound}
 use Rattle.drawing.proofs.Machine.{the_x, the_y}
 use Rattle.drawing.proofs.masks.away.Goals as goal

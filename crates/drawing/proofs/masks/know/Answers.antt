@@ -1,6 +1,6 @@
 -- `drawing::masks::know` meets its contract: after t steps the masks tell of the sides from n - t on.
 use mathlib.Core.Path.{◌≡◌, refl, sym, ap, ◌∙◌, subst}
-use Prim.Native.Nat.{◌+◌, ◌*◌, ◌-◌, ◌%◌, ◌^◌, ◌≤◌, ◌<◌}
+use Prim.Native.Nat.{◌*◌, ◌%◌, ◌^◌, ◌≤◌, ◌<◌}
 use native.Mathlib.Omega.{arith}
 use lib.Bits.{bit_xor}
 use lib.Dec.{eqb}
@@ -8,11 +8,10 @@ use lib.IntN.{pos}
 use lib.Signed.{lt_z}
 use mir.Syntax.{w64}
 use mir.Val.{of_z}
-use borrow.Author.Rules.{rules}
 use Rattle.whole.specs.Bits.{shifted_one}
-use Rattle.whole.specs.Masks.{Marks, Made, made_none, made_more, made_room, made_all}
-use Rattle.outline.specs.Drawing.{corners, after}
-use Rattle.drawing.specs.Known.{Left, OnLine, Along, Low, West}
+use Rattle.whole.specs.Masks.{Marks, made_none, made_more, made_room, made_all}
+use Rattle.outline.specs.Drawing.{corners}
+use Rattle.drawing.specs.Known.{OnLine, Along}
 use Rattle.outline.specs.Round.{next_prev, next_down}
 use Rattle.drawing.specs.Away.{Away, cross_turn, less, less_back}
 use Rattle.drawing.specs.Digits.{right_marks, along_marks}

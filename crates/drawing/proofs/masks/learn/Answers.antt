@@ -1,11 +1,9 @@
 -- `drawing::masks::learn` meets its contract: what the corners before i know is there.
 use mathlib.Core.Path.{◌≡◌, refl}
-use Prim.Native.Nat.{◌-◌, ◌≤◌, ◌<◌}
+use Prim.Native.Nat.{◌<◌}
 use native.Mathlib.Omega.{arith}
 use lib.ListN.{length, length-set}
-use Rattle.limits.specs.Limits.{most_corners}
 use Rattle.outline.specs.Drawing.{corners}
-use Rattle.drawing.specs.Known.{AllKnown}
 use Rattle.drawing.proofs.Learning.{known_more}
 use Rattle.drawing.proofs.masks.learn.Goals as goal
 

@@ -1,12 +1,10 @@
 -- `drawing::masks::learn` meets its contract: what the corners before i know is there.
-use mathlib.Core.Path.{◌≡◌, refl}
-use Prim.Native.Nat.{◌-◌, ◌≤◌, ◌<◌}
-use native.Mathlib.Omega.{arith}
-use lib.ListN.{length, length-set}
+use mathlib.Core.Path.{◌≡◌}
+use Prim.Native.Nat.{◌-◌, ◌≤◌}
+use lib.ListN.{length}
 use Rattle.limits.specs.Limits.{most_corners}
 use Rattle.outline.specs.Drawing.{corners}
 use Rattle.drawing.specs.Known.{AllKnown}
-use Rattle.drawing.proofs.Learning.{known_more}
 use Rattle.drawing.proofs.masks.learn.Given as goal
 
 abbrev pub invariant-loop-i : goal.invariant-loop-i

@@ -5,7 +5,6 @@ use lib.Signed.{clash_ℤ}
 use Rattle.whole.specs.Bounds.{lt_yes, lt_no}
 use Rattle.outline.specs.Drawing.{corner, corners, prev, after, turn_of}
 use Rattle.drawing.proofs.Machine.{back, held, turn_same}
-use borrow.Author.Rules.{rules}
 use Rattle.drawing.proofs.masks.need.Goals as goal
 
 pub returns-then-turn-gt0 : goal.returns-then-turn-gt0

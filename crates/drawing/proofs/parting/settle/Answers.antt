@@ -1,9 +1,6 @@
 -- `drawing::parting::settle` meets its contract: the rows before i are settled.
 use mathlib.Core.Path.{◌≡◌, subst}
-use Prim.Native.Nat.{◌-◌, ◌≤◌, ◌<◌}
 use native.Mathlib.Omega.{arith}
-use lib.ListN.{length}
-use Rattle.limits.specs.Limits.{all_cells}
 use Rattle.outline.specs.Drawing.{corners}
 use Rattle.drawing.specs.Table.{RowsSettled}
 use Rattle.drawing.proofs.Settling.{settling_none, rows_more}

@@ -1,13 +1,7 @@
 -- `drawing::parting::settle_row` meets its contract: the pairs with the corners before j are settled.
-use mathlib.Core.Path.{◌≡◌, sym, subst}
-use mathlib.Core.Logic.{⊎_elim}
-use Prim.Native.Nat.{◌-◌, ◌+◌, ◌≤◌, ◌<◌}
-use native.Mathlib.Omega.{arith}
-use lib.ListN.{length}
-use Rattle.limits.specs.Limits.{all_cells}
+use Prim.Native.Nat.{◌-◌, ◌≤◌}
 use Rattle.outline.specs.Drawing.{corners}
 use Rattle.drawing.specs.Table.{RowSettled}
-use Rattle.drawing.proofs.Settling.{settling_none, row_more}
 use Rattle.drawing.proofs.parting.settle_row.Given as goal
 
 abbrev pub invariant-loop-j : goal.invariant-loop-j

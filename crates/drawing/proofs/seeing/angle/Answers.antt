@@ -5,7 +5,6 @@ use native.Mathlib.Omega.{arith}
 use Rattle.outline.specs.Tells.{as_well, most_tells}
 use Rattle.whole.specs.Bits.{bit, bit_shifted}
 use Rattle.drawing.specs.Faced.{facing_of, facing_to}
-use borrow.Author.Rules.{rules}
 use Rattle.drawing.proofs.seeing.angle.Goals as goal
 
 pub returns : goal.returns

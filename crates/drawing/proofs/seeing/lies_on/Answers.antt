@@ -1,9 +1,7 @@
 -- `drawing::seeing::lies_on` meets its contract.
 use mathlib.Core.Path.{◌≡◌, refl, ap, ◌∙◌}
-use lib.IntN.{pos}
 use mir.Syntax.{w64}
 use mir.Val.{of_z}
-use borrow.Author.Rules.{rules}
 use Rattle.outline.specs.Drawing.{corner, turn_of}
 use Rattle.outline.specs.Tells.{never}
 use Rattle.outline.specs.Placed.{dot_on, on_dot}

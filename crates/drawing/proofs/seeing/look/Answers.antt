@@ -1,21 +1,21 @@
 -- `drawing::seeing::look` meets its contract.
-use mathlib.Core.Path.{◌≡◌, refl}
+use mathlib.Core.Path.{refl}
 use mathlib.Core.Logic.{◌⊎◌, inl, inr}
 use mathlib.Core.List.{List}
 use Prim.Native.Nat.{ℕ, ◌<◌}
 use lib.IntN.{ℤ}
-use borrow.Author.Tests.{not-true, not-false}
 use Rattle.outline.specs.Drawing.{Sound, corners, Angle, Beside}
 use Rattle.outline.specs.InOrOn.{CentreSees}
 use Rattle.outline.specs.Tells.{if_yes, if_no}
 use Rattle.outline.specs.Seeing.{beside_or}
 use Rattle.outline.proofs.Begins.{Begins, inside_or_along}
 use Rattle.drawing.specs.Table.{Early}
-use borrow.Author.Rules.{rules}
 use Rattle.drawing.proofs.seeing.look.Goals as goal
 
 pub angle-requires : goal.angle-requires
-angle-requires c = let h = c.requires in record { limits = (h.limits.0, h.limits.2, h.angle.1.needs); marks = h.angle.2.left_of }
+angle-requires c =
+    let h = c.requires in
+    record { limits = (h.limits.0, h.limits.2, h.angle.1.needs); marks = h.angle.2.left_of }
 
 -- a corner that is seen is a neighbour, or inside the angle, or the line of sight begins with a side
 told-early : (d : List ℤ) → Sound d → (i j : ℕ) → i < corners d → j < corners d → ¬ Angle d i j → CentreSees d i j →

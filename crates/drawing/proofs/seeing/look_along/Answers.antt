@@ -1,15 +1,13 @@
 -- `drawing::seeing::look_along` meets its contract: no mark passed is a side that hides.
-use mathlib.Core.Path.{◌≡◌, refl, subst}
+use mathlib.Core.Path.{◌≡◌, refl}
 use Prim.Native.Nat.{◌<◌}
 use native.Mathlib.Omega.{arith}
-use borrow.Author.Rules.{rules}
-use Rattle.whole.specs.Masks.{Scan, mark, scan_start, scan_end, scan_mark, scan_less, scan_more, mark_below}
+use Rattle.whole.specs.Masks.{mark, scan_start, scan_end, scan_mark, scan_less, scan_more, mark_below}
 use Rattle.outline.specs.Drawing.{corner, corners}
-use Rattle.drawing.specs.Known.{Open, Hides, MeetsSide}
+use Rattle.drawing.specs.Known.{Open}
 use Rattle.drawing.specs.Looking.{seen_clear}
 use Rattle.drawing.specs.Grazing.{inside_apart, crossed_by}
 use Rattle.drawing.specs.Codes.{code_seen, code_unseen, code_grazed}
-use Rattle.drawing.specs.declared.segment.Met.{Met}
 use Rattle.drawing.proofs.seeing.look_along.Goals as goal
 
 pub loop-rest-init : goal.loop-rest-init
@@ -45,7 +43,10 @@ touched-requires c =
     let differ : let s = c.args in ¬ (corner s.xy.now s.i ≡ corner s.xy.now s.j) =
     inside_apart c.args.xy.now c.args.i c.args.j c.requires.angle.0 in
     let touches = c.in-Touched.ensures in
-    record { limits = c.requires.limits; k_bound = (here.0, record { differ = differ; is_open = here.1; touches = touches }) }
+    record {
+      limits = c.requires.limits;
+      k_bound = (here.0, record { differ = differ; is_open = here.1; touches = touches });
+    }
 
 pub overflow_cast-result : goal.overflow_cast-result
 overflow_cast-result c =

@@ -1,6 +1,5 @@
 -- `drawing::seeing::meet_side` meets its contract.
 use mathlib.Core.Path.{◌≡◌, ap, ◌∙◌}
-use borrow.Author.Rules.{rules}
 use Rattle.outline.specs.Drawing.{corner, after}
 use Rattle.drawing.specs.Parts.{point}
 use Rattle.drawing.specs.Looking.{open_reached}

@@ -1,6 +1,5 @@
 -- `drawing::seeing::to_look_at` meets its contract.
 use mathlib.Core.Path.{◌≡◌, ap, ◌∙◌}
-use borrow.Author.Rules.{rules}
 use Rattle.outline.specs.Drawing.{Point}
 use Rattle.drawing.specs.Digits.{look_digits, look_digits_back, looks}
 use Rattle.drawing.proofs.Machine.{the_x, the_y}

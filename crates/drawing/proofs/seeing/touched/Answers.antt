@@ -1,6 +1,5 @@
 -- `drawing::seeing::touched` meets its contract.
-use mathlib.Core.Path.{◌≡◌, sym, subst}
-use borrow.Author.Rules.{rules}
+use mathlib.Core.Path.{sym, subst}
 use Rattle.outline.specs.Tells.{if_yes, if_no}
 use Rattle.outline.specs.Way.{GrazedBy}
 use Rattle.drawing.specs.Grazing.{touched_here, touched_there}

@@ -1,5 +1,4 @@
 -- `drawing::segment::beyond` meets its contract.
--- one comparison, as the machine makes it
 use mathlib.Core.Bool.{Bool, ◌&&◌}
 use mathlib.Core.Logic.{inl}
 use lib.IntN.{ℤ}
@@ -8,26 +7,30 @@ use mir.Syntax.{w64}
 use mir.Val.{SFits}
 use mir.Facts.{to_z-of_z}
 use Rattle.outline.specs.Tells.{Tells, if_yes, if_no, surely, never, and_tells, or_tells}
-use Rattle.outline.specs.FarApart.{Below}
 use Rattle.drawing.proofs.Machine.{back, by_lt}
 use Rattle.drawing.proofs.segment.beyond.Goals as goal
 
+-- one comparison, as the machine makes it
 abbrev less : ℤ → ℤ → Bool
 less x y = lt_z (back x) (back y)
 
 tells : {x y : ℤ} → SFits w64 x → SFits w64 y → Tells (less x y) (x <ℤ y)
 tells e f = by_lt (to_z-of_z e) (to_z-of_z f) (λ h. h) (λ h. h)
 
+-- both of one segment's ends are below both of the other's
+both : {x y z w : ℤ} → SFits w64 x → SFits w64 y → SFits w64 z → SFits w64 w →
+    Tells ((less x z && less x w) && (less y z && less y w)) (((x <ℤ z) × (x <ℤ w)) × ((y <ℤ z) × (y <ℤ w)))
+both e f g h = and_tells (and_tells (tells e g) (tells e h)) (and_tells (tells f g) (tells f h))
+
 pub returns-then-c-a : goal.returns-then-c-a
 returns-then-c-a c =
     let f = c.ranges in
-    let both_below = and_tells (and_tells (tells f.c f.a) (tells f.c f.b)) (and_tells (tells f.d f.a) (tells f.d f.b)) in
+    let both_below = both f.c f.d f.a f.b in
     surely (inl (if_yes both_below c.if-c-a.true))
 
 pub returns : goal.returns
 returns c =
     let f = c.ranges in
-    let both_below = and_tells (and_tells (tells f.c f.a) (tells f.c f.b)) (and_tells (tells f.d f.a) (tells f.d f.b)) in
+    let both_below = both f.c f.d f.a f.b in
     or_tells (never (if_no both_below c.if-c-a.false))
-    (and_tells (and_tells (tells f.a f.c) (tells f.b f.c))
-    (and_tells (tells f.a f.d) (tells f.b f.d)))
+    (and_tells (and_tells (tells f.a f.c) (tells f.b f.c)) (and_tells (tells f.a f.d) (tells f.b f.d)))

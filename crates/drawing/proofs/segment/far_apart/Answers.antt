@@ -1,6 +1,5 @@
 -- `drawing::segment::far_apart` meets its contract.
 use mathlib.Core.Logic.{inl}
-use borrow.Author.Rules.{rules}
 use Rattle.outline.specs.Tells.{Tells, if_yes, if_no, surely, never, or_tells}
 use Rattle.outline.specs.FarApart.{Beyond}
 use Rattle.drawing.proofs.Machine.{the_x, the_y}

@@ -4,7 +4,6 @@ use mathlib.Core.Logic.{inl, inr}
 use lib.IntN.{ℤ}
 use mir.Syntax.{w64}
 use mir.Val.{of_z}
-use borrow.Author.Rules.{rules}
 use Rattle.outline.specs.Drawing.{turn_of}
 use Rattle.outline.specs.Tells.{Tells, if_yes, if_no}
 use Rattle.drawing.specs.Parts.{point}

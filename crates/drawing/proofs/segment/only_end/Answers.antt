@@ -1,6 +1,5 @@
 -- `drawing::segment::only_end` meets its contract.
 use mathlib.Core.Path.{refl, ap, ◌∙◌}
-use borrow.Author.Rules.{rules}
 use mir.Syntax.{w64}
 use mir.Val.{of_z}
 use Rattle.outline.specs.Tells.{surely}

@@ -1,13 +1,9 @@
 -- `drawing::segment::share` meets its contract: segments far apart share no point; of others the turns tell.
-use mathlib.Core.Path.{◌≡◌, subst}
-use borrow.Author.Rules.{rules}
 use Rattle.outline.specs.Drawing.{turn_of}
 use Rattle.outline.specs.Tells.{Tells, if_yes, if_no, surely, never}
 use Rattle.drawing.specs.Parts.{point}
 use Rattle.outline.specs.Segments.{exchanged, OneSide, one_side}
-use Rattle.drawing.specs.Meeting.{Meets}
 use Rattle.outline.specs.FarApart.{far_apart}
-use Rattle.drawing.specs.declared.segment.Met.{Met}
 use Rattle.drawing.proofs.Machine.{held}
 use Rattle.drawing.proofs.segment.share.Goals as goal
 

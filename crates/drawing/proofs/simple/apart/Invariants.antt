@@ -1,9 +1,5 @@
 -- `drawing::simple::apart` meets its contract: side i is apart from every side passed.
 use Prim.Native.Nat.{ℕ, ◌≤◌, ◌<◌, ◌-◌}
-use native.Mathlib.Omega.{arith}
-use borrow.Author.Tests.{not-true, not-false}
-use borrow.Author.Count.{below_more}
-use Rattle.outline.specs.Tells.{if_yes, if_no, surely, never}
 use Rattle.outline.specs.Sides.{SidesApart}
 use Rattle.drawing.proofs.simple.apart.Given as goal
 

@@ -3,7 +3,7 @@
 -- the machine's s is the sum of the first k sides
 use mathlib.Core.Path.{◌≡◌, refl, ap, ◌∙◌}
 use mathlib.Core.List.{List}
-use Prim.Native.Nat.{ℕ, ◌+◌, ◌*◌, ◌^◌, ◌≤◌, ◌<◌, ◌-◌}
+use Prim.Native.Nat.{ℕ, ◌+◌, ◌*◌, ◌^◌, ◌≤◌, ◌<◌}
 use native.Mathlib.Numerals.{add-one}
 use native.Mathlib.Omega.{arith}
 use lib.IntN.{ℤ, ◌+ℤ◌, ◌-ℤ◌, ◌*ℤ◌}
@@ -66,7 +66,8 @@ loop-k-preserved c =
     let part : SideArea (corner d k) (corner d (after d k)) c.side_area-sum.result =
     rw (c.corner-a.ensures.is, b_is) at c.side_area-sum.ensures in
     sum_more d k c.loop-k.invariant.1 (part_is c.side_area-sum.type_inv part) in
-    (omega arith, record { is = to_z-of_z (sum_fits (c.loop-k.k + 1) (omega arith) more) ∙ more.is; below = more.below })
+    let sum = to_z-of_z (sum_fits (c.loop-k.k + 1) (omega arith) more) in
+    (omega arith, record { is = sum ∙ more.is; below = more.below })
 
 pub returns : goal.returns
 returns c =

@@ -1,20 +1,11 @@
 -- `drawing::simple::doubled_area` meets its contract: the sum is that of the sides passed, and no larger than they
 -- allow.
-use mathlib.Core.Path.{◌≡◌, refl, ap, ◌∙◌}
 use mathlib.Core.List.{List}
-use Prim.Native.Nat.{ℕ, ◌+◌, ◌*◌, ◌^◌, ◌≤◌, ◌<◌, ◌-◌}
-use native.Mathlib.Numerals.{add-one}
-use native.Mathlib.Omega.{arith}
-use lib.IntN.{ℤ, ◌+ℤ◌, ◌-ℤ◌, ◌*ℤ◌}
-use lib.Signed.{mag}
-use mir.Syntax.{w64}
-use mir.Val.{to_z, SFits}
-use mir.Facts.{to_z-of_z}
-use Rattle.whole.specs.Bounds.{Val, fit, plus}
-use Rattle.limits.specs.Limits.{most_corners}
-use Rattle.outline.specs.Drawing.{Point, corner, corners, after, side_area, area_to}
-use Rattle.drawing.specs.Parts.{most_side_area, SideArea}
-use Rattle.drawing.proofs.Machine.{back, held}
+use Prim.Native.Nat.{ℕ, ◌*◌, ◌≤◌, ◌-◌}
+use lib.IntN.{ℤ}
+use Rattle.whole.specs.Bounds.{Val}
+use Rattle.outline.specs.Drawing.{corners, area_to}
+use Rattle.drawing.specs.Parts.{most_side_area}
 use Rattle.drawing.proofs.simple.doubled_area.Given as goal
 
 -- the machine's s is the sum of the first k sides

@@ -1,7 +1,5 @@
 -- `drawing::simple::side_stands` meets its contract.
 use mathlib.Core.Path.{◌≡◌, ap, ◌∙◌}
-use borrow.Author.Rules.{rules}
-use borrow.Author.Tests.{not-true, not-false}
 use Rattle.outline.specs.Drawing.{corner, after, SharedOnlyAt}
 use Rattle.outline.specs.Tells.{Tells, if_yes, if_no, never, as_well}
 use Rattle.outline.specs.Segments.{only_first}

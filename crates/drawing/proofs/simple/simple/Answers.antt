@@ -1,11 +1,8 @@
 -- `drawing::simple::simple` meets its contract: every side passed stands.
-use Prim.Native.Nat.{ℕ, ◌≤◌, ◌<◌, ◌-◌}
 use native.Mathlib.Omega.{arith}
-use borrow.Author.Tests.{not-true, not-false}
 use borrow.Author.Count.{below_more}
-use Rattle.outline.specs.Drawing.{corners}
 use Rattle.outline.specs.Tells.{if_yes, if_no, surely, never}
-use Rattle.outline.specs.Sides.{SideStands, simple_of, stands_of}
+use Rattle.outline.specs.Sides.{simple_of, stands_of}
 use Rattle.drawing.proofs.simple.simple.Goals as goal
 
 pub loop-i-init : goal.loop-i-init

@@ -1,9 +1,8 @@
 -- `drawing::table::blank` meets its contract.
 use mathlib.Core.Path.{◌≡◌}
-use Prim.Native.Nat.{◌≤◌, ◌-◌}
 use native.Mathlib.Omega.{arith}
 use Rattle.outline.specs.Drawing.{corners}
-use Rattle.drawing.proofs.Blank.{Blank, rows_none, rows_more, blank_marked}
+use Rattle.drawing.proofs.Blank.{rows_none, rows_more, blank_marked}
 use Rattle.drawing.proofs.table.blank.Goals as goal
 
 pub loop-i-init : goal.loop-i-init

@@ -1,9 +1,6 @@
 -- `drawing::table::blank_row` meets its contract.
 use Prim.Native.Nat.{◌≤◌, ◌-◌}
-use mathlib.Core.Path.{◌≡◌}
-use native.Mathlib.Omega.{arith}
 use Rattle.drawing.specs.Table.{RowBlank}
-use Rattle.drawing.proofs.Blank.{blank_none, blank_more}
 use Rattle.drawing.proofs.table.blank_row.Given as goal
 
 abbrev pub invariant-loop-j : goal.invariant-loop-j

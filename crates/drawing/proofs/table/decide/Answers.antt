@@ -5,9 +5,8 @@ use mathlib.Core.List.{List}
 use Prim.Native.Nat.{ℕ}
 use native.Mathlib.Omega.{arith}
 use lib.IntN.{ℤ}
-use borrow.Author.Rules.{rules}
 use Rattle.outline.specs.InOrOn.{CentreSees}
-use Rattle.drawing.specs.Table.{Early, Code, Looked, Decided, both}
+use Rattle.drawing.specs.Table.{Early, Code, Looked}
 use Rattle.drawing.specs.Codes.{nought_unseen}
 use Rattle.drawing.proofs.table.decide.Goals as goal
 

@@ -1,7 +1,6 @@
 -- `drawing::table::put` meets its contract.
 use native.Mathlib.Omega.{arith}
 use lib.ListN.{length-set}
-use borrow.Author.Rules.{rules}
 use Rattle.drawing.proofs.table.put.Goals as goal
 
 pub bounds-cells-j : goal.bounds-cells-j
