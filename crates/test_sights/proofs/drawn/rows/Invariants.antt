@@ -1,5 +1,5 @@
 -- Each row tells no more cells than it has.
-use Rattle.std.proofs.Common.{◌≡◌, ◌≤◌, ◌*◌, length}
+use Rattle.std.proofs.Common.{◌≤◌, ◌*◌}
 use Rattle.limits.specs.Limits.{row}
 use Rattle.test_sights.proofs.drawn.rows.Given as goal
 
