@@ -21,11 +21,11 @@ overflow_cast-k c = let l = mark_below c.loop-rest.invariant.0 c.loop-rest-test.
 pub along_side-requires : goal.along_side-requires
 along_side-requires c =
     let here : let s = c.args in
-        let k = mark c.loop-rest.rest in
-        (k < corners s.xy.now) × Along s.xy.now s.i k =
-        c.requires.marks.yes _ (scan_mark c.loop-rest.invariant.0 c.loop-rest-test.true) in
+    let k = mark c.loop-rest.rest in
+    (k < corners s.xy.now) × Along s.xy.now s.i k =
+    c.requires.marks.yes _ (scan_mark c.loop-rest.invariant.0 c.loop-rest-test.true) in
     let room : all_cells ≤ length c.loop-rest.cells =
-        omega (arith, c.requires.limits.3, c.loop-rest.invariant.1.size) in
+    omega (arith, c.requires.limits.3, c.loop-rest.invariant.1.size) in
     let h = c.requires.limits in
     record { limits = (h.0, h.1, h.2, room); k_bound = here }
 
@@ -39,11 +39,11 @@ loop-rest-smaller c =
 pub loop-rest-preserved : goal.loop-rest-preserved
 loop-rest-preserved c =
     let here : let s = c.args in
-        let k = mark c.loop-rest.rest in
-        (k < corners s.xy.now) × Along s.xy.now s.i k =
-        c.requires.marks.yes _ (scan_mark c.loop-rest.invariant.0 c.loop-rest-test.true) in
+    let k = mark c.loop-rest.rest in
+    (k < corners s.xy.now) × Along s.xy.now s.i k =
+    c.requires.marks.yes _ (scan_mark c.loop-rest.invariant.0 c.loop-rest-test.true) in
     let room : all_cells ≤ length c.loop-rest.cells =
-        omega (arith, c.requires.limits.3, c.loop-rest.invariant.1.size) in
+    omega (arith, c.requires.limits.3, c.loop-rest.invariant.1.size) in
     let h = c.requires.limits in
     let inv = c.loop-rest.invariant in
     let n = c.loop-rest-test.true in

@@ -13,7 +13,8 @@ use Rattle.drawing.proofs.Begun.{RowBegunTo, row_begin, row_begun, side_begun}
 use Rattle.drawing.proofs.beginnings.along_sides.Given as goal
 
 abbrev pub invariant-loop-rest : goal.invariant-loop-rest
-invariant-loop-rest l = Scan l.along l.rest (λ k. k ≡ k) × Grows l.xy (Begun l.xy l.i) (RowBegunTo l.xy l.i l.rest) l.initial.cells l.cells
+invariant-loop-rest l = Scan l.along l.rest (λ k. k ≡ k) ×
+    Grows l.xy (Begun l.xy l.i) (RowBegunTo l.xy l.i l.rest) l.initial.cells l.cells
 
 abbrev pub decreases-loop-rest : goal.decreases-loop-rest
 decreases-loop-rest l = l.rest

@@ -16,13 +16,13 @@ loop-i-init c = (omega arith, begun_first)
 pub offset_bounds-known-i : goal.offset_bounds-known-i
 offset_bounds-known-i c =
     let few : c.loop-i.i < 64 =
-        omega (arith, c.requires.limits.0.shaped.few, c.loop-i-test.true) in
+    omega (arith, c.requires.limits.0.shaped.few, c.loop-i-test.true) in
     omega (arith, few)
 
 pub bounds-known-i : goal.bounds-known-i
 bounds-known-i c =
     let few : c.loop-i.i < 64 =
-        omega (arith, c.requires.limits.0.shaped.few, c.loop-i-test.true) in
+    omega (arith, c.requires.limits.0.shaped.few, c.loop-i-test.true) in
     few
 
 pub along_sides-requires : goal.along_sides-requires
@@ -35,7 +35,7 @@ along_sides-requires c =
 pub overflow_step-i : goal.overflow_step-i
 overflow_step-i c =
     let few : c.loop-i.i < 64 =
-        omega (arith, c.requires.limits.0.shaped.few, c.loop-i-test.true) in
+    omega (arith, c.requires.limits.0.shaped.few, c.loop-i-test.true) in
     omega (arith, few)
 
 pub loop-i-smaller : goal.loop-i-smaller

@@ -10,21 +10,21 @@ use Rattle.drawing.proofs.corners.corner.Goals as goal
 pub overflow_cast-result : goal.overflow_cast-result
 overflow_cast-result c =
     let at_x : Coordinate c.args.xy.now (2 * c.args.i) =
-        coordinate c.args.xy.now (2 * c.args.i) c.requires.0.in_range (omega arith) c.result-1.given in
+    coordinate c.args.xy.now (2 * c.args.i) c.requires.0.in_range (omega arith) c.result-1.given in
     fit tt at_x
 
 pub overflow_cast-result-2 : goal.overflow_cast-result-2
 overflow_cast-result-2 c =
     let at_y : Coordinate c.args.xy.now (2 * c.args.i + 1) =
-        coordinate c.args.xy.now (2 * c.args.i + 1) c.requires.0.in_range (omega arith) c.result-2-1.given in
+    coordinate c.args.xy.now (2 * c.args.i + 1) c.requires.0.in_range (omega arith) c.result-2-1.given in
     fit tt at_y
 
 pub returns : goal.returns
 returns c =
     let at_x : Coordinate c.args.xy.now (2 * c.args.i) =
-        coordinate c.args.xy.now (2 * c.args.i) c.requires.0.in_range (omega arith) c.result-1.given in
+    coordinate c.args.xy.now (2 * c.args.i) c.requires.0.in_range (omega arith) c.result-1.given in
     let at_y : Coordinate c.args.xy.now (2 * c.args.i + 1) =
-        coordinate c.args.xy.now (2 * c.args.i + 1) c.requires.0.in_range (omega arith) c.result-2-1.given in
+    coordinate c.args.xy.now (2 * c.args.i + 1) c.requires.0.in_range (omega arith) c.result-2-1.given in
     let x = loc w64 tt at_x in
     let y = loc w64 tt at_y in
     record { is = λ i. record { x = x.is i; y = y.is i }; close = record { close_x = bound x; close_y = bound y } }

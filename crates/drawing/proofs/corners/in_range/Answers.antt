@@ -17,7 +17,7 @@ loop-k-init c = (omega arith, λ m h. absurd (omega arith))
 pub returns-then-not-near : goal.returns-then-not-near
 returns-then-not-near c =
     let told : Tells c.near.result (Near (get_or c.args.xy.now c.loop-k.k (pos 0))) =
-        rw (to_z-of_z (sfits_of c.near-arg-1.given)) at c.near.ensures in
+    rw (to_z-of_z (sfits_of c.near-arg-1.given)) at c.near.ensures in
     let k = c.loop-k.k in
     let not-near = if_no told c.if-not-near.true in
     never (λ r. not-near (record { low = r.low k (omega arith); high = r.high k (omega arith) }))
@@ -25,7 +25,7 @@ returns-then-not-near c =
 pub loop-k-preserved : goal.loop-k-preserved
 loop-k-preserved c =
     let told : Tells c.near.result (Near (get_or c.args.xy.now c.loop-k.k (pos 0))) =
-        rw (to_z-of_z (sfits_of c.near-arg-1.given)) at c.near.ensures in
+    rw (to_z-of_z (sfits_of c.near-arg-1.given)) at c.near.ensures in
     let is-near = if_yes told c.if-not-near.false in
     (omega arith, below_more _ _ c.loop-k.invariant.1 is-near)
 

@@ -30,7 +30,7 @@ overflow_mul-two c = record { fits = double_fits c.loop-t-test.true c.requires c
 pub overflow_add-two : goal.overflow_add-two
 overflow_add-two c =
     let need : ℕ =
-        need_of c.args.known (c.args.n - (c.loop-t.t + 1)) in
+    need_of c.args.known (c.args.n - (c.loop-t.t + 1)) in
     let two = eqb need 2 in
     record { fits = digit_fits c.loop-t-test.true c.requires c.loop-t.invariant.1 two }
 
@@ -40,7 +40,7 @@ overflow_mul-one c = record { fits = double_fits c.loop-t-test.true c.requires c
 pub overflow_add-one : goal.overflow_add-one
 overflow_add-one c =
     let need : ℕ =
-        need_of c.args.known (c.args.n - (c.loop-t.t + 1)) in
+    need_of c.args.known (c.args.n - (c.loop-t.t + 1)) in
     let one = eqb need 1 in
     record { fits = digit_fits c.loop-t-test.true c.requires c.loop-t.invariant.2 one }
 

@@ -10,7 +10,8 @@ use Rattle.drawing.proofs.Machine.{digit, digit_fits, double_fits}
 use Rattle.drawing.proofs.faced.angles.Given as goal
 
 abbrev pub invariant-loop-t : goal.invariant-loop-t
-invariant-loop-t l = (l.t ≤ l.n) × Made l.n l.t l.two (λ j. need_of l.known j ≡ 2) × Made l.n l.t l.one (λ j. need_of l.known j ≡ 1)
+invariant-loop-t l = (l.t ≤ l.n) × Made l.n l.t l.two (λ j. need_of l.known j ≡ 2) ×
+    Made l.n l.t l.one (λ j. need_of l.known j ≡ 1)
 
 abbrev pub decreases-loop-t : goal.decreases-loop-t
 decreases-loop-t l = l.n - l.t

@@ -52,67 +52,67 @@ cross-s-requires c = (c.away-start.ensures.far, (c.loop-t.invariant.6 c.loop-t-t
 pub overflow_mul-all : goal.overflow_mul-all
 overflow_mul-all c =
     let taken : c.loop-t.t < corners c.args.xy.now =
-        c.loop-t-test.true in
+    c.loop-t-test.true in
     let few : corners c.args.xy.now ≤ 64 =
-        c.requires.0.shaped.few in
+    c.requires.0.shaped.few in
     record { fits = double_fits taken few c.loop-t.invariant.1 }
 
 pub overflow_add-all : goal.overflow_add-all
 overflow_add-all c =
     let taken : c.loop-t.t < corners c.args.xy.now =
-        c.loop-t-test.true in
+    c.loop-t-test.true in
     let few : corners c.args.xy.now ≤ 64 =
-        c.requires.0.shaped.few in
+    c.requires.0.shaped.few in
     record { fits = made_room {b = 1} taken c.loop-t.invariant.1 few (omega arith) }
 
 pub overflow_mul-left : goal.overflow_mul-left
 overflow_mul-left c =
     let taken : c.loop-t.t < corners c.args.xy.now =
-        c.loop-t-test.true in
+    c.loop-t-test.true in
     let few : corners c.args.xy.now ≤ 64 =
-        c.requires.0.shaped.few in
+    c.requires.0.shaped.few in
     record { fits = double_fits taken few c.loop-t.invariant.2 }
 
 pub overflow_add-left : goal.overflow_add-left
 overflow_add-left c =
     let taken : c.loop-t.t < corners c.args.xy.now =
-        c.loop-t-test.true in
+    c.loop-t-test.true in
     let few : corners c.args.xy.now ≤ 64 =
-        c.requires.0.shaped.few in
+    c.requires.0.shaped.few in
     let left = lt_z (pos 0) (back c.cross-s.result) in
     record { fits = digit_fits taken few c.loop-t.invariant.2 left }
 
 pub overflow_mul-flat : goal.overflow_mul-flat
 overflow_mul-flat c =
     let taken : c.loop-t.t < corners c.args.xy.now =
-        c.loop-t-test.true in
+    c.loop-t-test.true in
     let few : corners c.args.xy.now ≤ 64 =
-        c.requires.0.shaped.few in
+    c.requires.0.shaped.few in
     record { fits = double_fits taken few c.loop-t.invariant.3 }
 
 pub overflow_add-flat : goal.overflow_add-flat
 overflow_add-flat c =
     let taken : c.loop-t.t < corners c.args.xy.now =
-        c.loop-t-test.true in
+    c.loop-t-test.true in
     let few : corners c.args.xy.now ≤ 64 =
-        c.requires.0.shaped.few in
+    c.requires.0.shaped.few in
     let flat = eqb (of_z w64 c.cross-s.result) 0 in
     record { fits = digit_fits taken few c.loop-t.invariant.3 flat }
 
 pub overflow_mul-low : goal.overflow_mul-low
 overflow_mul-low c =
     let taken : c.loop-t.t < corners c.args.xy.now =
-        c.loop-t-test.true in
+    c.loop-t-test.true in
     let few : corners c.args.xy.now ≤ 64 =
-        c.requires.0.shaped.few in
+    c.requires.0.shaped.few in
     record { fits = double_fits taken few c.loop-t.invariant.4 }
 
 pub overflow_add-low : goal.overflow_add-low
 overflow_add-low c =
     let taken : c.loop-t.t < corners c.args.xy.now =
-        c.loop-t-test.true in
+    c.loop-t-test.true in
     let few : corners c.args.xy.now ≤ 64 =
-        c.requires.0.shaped.few in
+    c.requires.0.shaped.few in
     let start = lt_z (back c.away-start.result.y) (pos 0) in
     let end = lt_z (back c.loop-t.end.y) (pos 0) in
     record { fits = made_room taken c.loop-t.invariant.4 few (either_small start end) }
@@ -120,17 +120,17 @@ overflow_add-low c =
 pub overflow_mul-west : goal.overflow_mul-west
 overflow_mul-west c =
     let taken : c.loop-t.t < corners c.args.xy.now =
-        c.loop-t-test.true in
+    c.loop-t-test.true in
     let few : corners c.args.xy.now ≤ 64 =
-        c.requires.0.shaped.few in
+    c.requires.0.shaped.few in
     record { fits = double_fits taken few c.loop-t.invariant.5 }
 
 pub overflow_add-west : goal.overflow_add-west
 overflow_add-west c =
     let taken : c.loop-t.t < corners c.args.xy.now =
-        c.loop-t-test.true in
+    c.loop-t-test.true in
     let few : corners c.args.xy.now ≤ 64 =
-        c.requires.0.shaped.few in
+    c.requires.0.shaped.few in
     let start = lt_z (back c.away-start.result.x) (pos 0) in
     let end = lt_z (back c.loop-t.end.x) (pos 0) in
     record { fits = made_room taken c.loop-t.invariant.5 few (either_small start end) }
@@ -138,15 +138,15 @@ overflow_add-west c =
 pub overflow_step-t : goal.overflow_step-t
 overflow_step-t c =
     let taken : c.loop-t.t < corners c.args.xy.now =
-        c.loop-t-test.true in
+    c.loop-t-test.true in
     let few : corners c.args.xy.now ≤ 64 =
-        c.requires.0.shaped.few in
+    c.requires.0.shaped.few in
     omega (arith, few, taken)
 
 pub loop-t-smaller : goal.loop-t-smaller
 loop-t-smaller c =
     let taken : c.loop-t.t < corners c.args.xy.now =
-        c.loop-t-test.true in
+    c.loop-t-test.true in
     omega (arith, taken)
 
 pub loop-t-preserved : goal.loop-t-preserved
@@ -173,15 +173,15 @@ loop-t-preserved c =
 pub overflow_shl-before : goal.overflow_shl-before
 overflow_shl-before c =
     let sides : (c.prev-h.result < 64) × (c.args.i < 64) =
-        let h = c.requires in
-        (omega (arith, c.prev-h.ensures.below, h.0.shaped.few), omega (arith, h.1, h.0.shaped.few)) in
+    let h = c.requires in
+    (omega (arith, c.prev-h.ensures.below, h.0.shaped.few), omega (arith, h.1, h.0.shaped.few)) in
     sides.0
 
 pub overflow_shl-after : goal.overflow_shl-after
 overflow_shl-after c =
     let sides : (c.prev-h.result < 64) × (c.args.i < 64) =
-        let h = c.requires in
-        (omega (arith, c.prev-h.ensures.below, h.0.shaped.few), omega (arith, h.1, h.0.shaped.few)) in
+    let h = c.requires in
+    (omega (arith, c.prev-h.ensures.below, h.0.shaped.few), omega (arith, h.1, h.0.shaped.few)) in
     sides.1
 
 pub need-need-requires : goal.need-need-requires
@@ -190,21 +190,21 @@ need-need-requires c = let h = c.requires in (h.0, h.1)
 pub returns : goal.returns
 returns c =
     let sides : (c.prev-h.result < 64) × (c.args.i < 64) =
-        let h = c.requires in
-        (omega (arith, c.prev-h.ensures.below, h.0.shaped.few), omega (arith, h.1, h.0.shaped.few)) in
+    let h = c.requires in
+    (omega (arith, c.prev-h.ensures.below, h.0.shaped.few), omega (arith, h.1, h.0.shaped.few)) in
     let every : c.loop-t.t ≡ corners c.args.xy.now =
-        omega (arith, c.loop-t.invariant.0, c.loop-t-test.false) in
+    omega (arith, c.loop-t.invariant.0, c.loop-t-test.false) in
     let flat : let s = c.args in
-        Marks (corners s.xy.now) c.loop-t.flat (OnLine s.xy.now s.i) =
-        let e = every in made_all (rw e at c.loop-t.invariant.3) in
+    Marks (corners s.xy.now) c.loop-t.flat (OnLine s.xy.now s.i) =
+    let e = every in made_all (rw e at c.loop-t.invariant.3) in
     let along : let s = c.args in
-        let before = 1 * 2 ^ c.prev-h.result % 2 ^ 64 in
-        let after = 1 * 2 ^ s.i % 2 ^ 64 in
-        Marks (corners s.xy.now) (bit_xor (bit_xor c.loop-t.flat before) after)
-        (Along s.xy.now s.i) =
-        let before = shifted_one c.prev-h.result sides.0 ∙ ap (λ y. 2 ^ y) c.prev-h.ensures.is in
-        rw (before, shifted_one c.args.i sides.1)
-        (along_marks c.args.xy.now c.args.i c.requires.1 (omega (arith, c.requires.0.shaped.enough)) flat) in
+    let before = 1 * 2 ^ c.prev-h.result % 2 ^ 64 in
+    let after = 1 * 2 ^ s.i % 2 ^ 64 in
+    Marks (corners s.xy.now) (bit_xor (bit_xor c.loop-t.flat before) after)
+    (Along s.xy.now s.i) =
+    let before = shifted_one c.prev-h.result sides.0 ∙ ap (λ y. 2 ^ y) c.prev-h.ensures.is in
+    rw (before, shifted_one c.args.i sides.1)
+    (along_marks c.args.xy.now c.args.i c.requires.1 (omega (arith, c.requires.0.shaped.enough)) flat) in
     let loop = c.loop-t in
     let e = every in
     let left = made_all (rw e at loop.invariant.2) in

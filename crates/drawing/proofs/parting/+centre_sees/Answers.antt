@@ -31,6 +31,7 @@ returns t c =
     let h = c.requires.limits in
     let k = c.requires.i_bound in
     let g = grazed_by s.cells.now k.0 k.1 h.3 c.if-told-lt-GRAZED.false in
-    let done = parts_settled h.1 k.0 k.1 g s.cells.now _ _ h.2 c.centre_sees-first.ensures c.centre_sees-second.ensures in
+    let done = parts_settled h.1 k.0 k.1 g s.cells.now _ _ h.2 c.centre_sees-first.ensures c.centre_sees-second.ensures
+    in
     subst (λ w. PairSettled s.xy.now s.i s.j s.cells.now w (c.centre_sees-first.result && c.centre_sees-second.result))
-        (sym c.put.ensures) done
+    (sym c.put.ensures) done

@@ -13,10 +13,10 @@ use Rattle.drawing.proofs.seeing.lies_on.Goals as goal
 pub returns-then-turn-eq0 : goal.returns-then-turn-eq0
 returns-then-turn-eq0 c =
     let line : let s = c.args in
-        c.turn.result ≡ turn_of (corner s.xy.now s.i) (corner s.xy.now s.j) (corner s.xy.now s.k) =
-        c.turn.ensures ∙
-        turn_same c.corner-a.ensures.is c.corner-b.ensures.is
-        c.corner-c.ensures.is in
+    c.turn.result ≡ turn_of (corner s.xy.now s.i) (corner s.xy.now s.j) (corner s.xy.now s.k) =
+    c.turn.ensures ∙
+    turn_same c.corner-a.ensures.is c.corner-b.ensures.is
+    c.corner-c.ensures.is in
     let flat = same_bits (held c.turn.type_inv line) refl c.if-turn-eq0.true in
     let e = c.dot.ensures ∙
     dot_same c.corner-c.ensures.is c.corner-a.ensures.is
@@ -26,8 +26,8 @@ returns-then-turn-eq0 c =
 pub returns-else-turn-eq0 : goal.returns-else-turn-eq0
 returns-else-turn-eq0 c =
     let line : let s = c.args in
-        c.turn.result ≡ turn_of (corner s.xy.now s.i) (corner s.xy.now s.j) (corner s.xy.now s.k) =
-        c.turn.ensures ∙
-        turn_same c.corner-a.ensures.is c.corner-b.ensures.is
-        c.corner-c.ensures.is in
+    c.turn.result ≡ turn_of (corner s.xy.now s.i) (corner s.xy.now s.j) (corner s.xy.now s.k) =
+    c.turn.ensures ∙
+    turn_same c.corner-a.ensures.is c.corner-b.ensures.is
+    c.corner-c.ensures.is in
     never (λ o. c.if-turn-eq0.false (ap (of_z w64) (line ∙ o.line)))

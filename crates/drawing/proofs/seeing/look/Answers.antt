@@ -15,7 +15,8 @@ use borrow.Author.Rules.{rules}
 use Rattle.drawing.proofs.seeing.look.Goals as goal
 
 pub angle-requires : goal.angle-requires
-angle-requires c = let h = c.requires in record { limits = (h.limits.0, h.limits.2, h.angle.1.needs); marks = h.angle.2.left_of }
+angle-requires c = let h = c.requires in record
+    { limits = (h.limits.0, h.limits.2, h.angle.1.needs); marks = h.angle.2.left_of }
 
 -- a corner that is seen is a neighbour, or inside the angle, or the line of sight begins with a side
 told-early : (d : List ℤ) → Sound d → (i j : ℕ) → i < corners d → j < corners d → ¬ Angle d i j → CentreSees d i j →

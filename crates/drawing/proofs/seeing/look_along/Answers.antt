@@ -21,9 +21,9 @@ overflow_cast-k c = let l = mark_below c.loop-rest.invariant c.loop-rest-test.tr
 pub meet_side-requires : goal.meet_side-requires
 meet_side-requires c =
     let here : let s = c.args in
-        let k = mark c.loop-rest.rest in
-        (k < corners s.xy.now) × Open s.xy.now s.i s.j k =
-        c.requires.angle.2.is_open _ (scan_mark c.loop-rest.invariant c.loop-rest-test.true) in
+    let k = mark c.loop-rest.rest in
+    (k < corners s.xy.now) × Open s.xy.now s.i s.j k =
+    c.requires.angle.2.is_open _ (scan_mark c.loop-rest.invariant c.loop-rest-test.true) in
     let h = c.requires.limits in record { limits = (h.0, h.2, h.3, here.0); fact = here.1 }
 
 pub overflow_sub-rest : goal.overflow_sub-rest
@@ -39,24 +39,28 @@ loop-rest-preserved c =
 pub touched-requires : goal.touched-requires
 touched-requires c =
     let here : let s = c.args in
-        let k = mark c.loop-rest.rest in
-        (k < corners s.xy.now) × Open s.xy.now s.i s.j k =
-        c.requires.angle.2.is_open _ (scan_mark c.loop-rest.invariant c.loop-rest-test.true) in
+    let k = mark c.loop-rest.rest in
+    (k < corners s.xy.now) × Open s.xy.now s.i s.j k =
+    c.requires.angle.2.is_open _ (scan_mark c.loop-rest.invariant c.loop-rest-test.true) in
     let differ : let s = c.args in ¬ (corner s.xy.now s.i ≡ corner s.xy.now s.j) =
-        inside_apart c.args.xy.now c.args.i c.args.j c.requires.angle.0 in
+    inside_apart c.args.xy.now c.args.i c.args.j c.requires.angle.0 in
     let touches = c.in-Touched.ensures in
-    record { limits = c.requires.limits; k_bound = (here.0, record { differ = differ; is_open = here.1; touches = touches }) }
+    record {
+      limits = c.requires.limits;
+      k_bound =
+          (here.0, record { differ = differ; is_open = here.1; touches = touches });
+    }
 
 pub overflow_cast-result : goal.overflow_cast-result
 overflow_cast-result c =
     let small : c.touched.result < 64 =
-        omega (arith, c.touched.ensures.below, c.requires.limits.0.shaped.few) in
+    omega (arith, c.touched.ensures.below, c.requires.limits.0.shaped.few) in
     omega (arith, small)
 
 pub overflow_add-result : goal.overflow_add-result
 overflow_add-result c =
     let small : c.touched.result < 64 =
-        omega (arith, c.touched.ensures.below, c.requires.limits.0.shaped.few) in
+    omega (arith, c.touched.ensures.below, c.requires.limits.0.shaped.few) in
     omega (arith, small)
 
 pub returns-in-Touched : goal.returns-in-Touched
@@ -65,11 +69,11 @@ returns-in-Touched c = code_grazed c.touched.ensures refl
 pub returns-in-Crossed : goal.returns-in-Crossed
 returns-in-Crossed c =
     let here : let s = c.args in
-        let k = mark c.loop-rest.rest in
-        (k < corners s.xy.now) × Open s.xy.now s.i s.j k =
-        c.requires.angle.2.is_open _ (scan_mark c.loop-rest.invariant c.loop-rest-test.true) in
+    let k = mark c.loop-rest.rest in
+    (k < corners s.xy.now) × Open s.xy.now s.i s.j k =
+    c.requires.angle.2.is_open _ (scan_mark c.loop-rest.invariant c.loop-rest-test.true) in
     let differ : let s = c.args in ¬ (corner s.xy.now s.i ≡ corner s.xy.now s.j) =
-        inside_apart c.args.xy.now c.args.i c.args.j c.requires.angle.0 in
+    inside_apart c.args.xy.now c.args.i c.args.j c.requires.angle.0 in
     let h = c.requires.limits in
     let crossed = c.in-Crossed.ensures in
     code_unseen h.1 h.2 h.3

@@ -10,20 +10,23 @@ use Rattle.drawing.proofs.seeing.meet_side.Goals as goal
 pub meet-requires : goal.meet-requires
 meet-requires c =
     let d-is : let s = c.args in
-        point c.corner-d.result ≡ corner s.xy.now (after s.xy.now s.k) =
-        c.corner-d.ensures.is ∙ ap (corner c.args.xy.now) c.next-m.ensures.is in
-    record { close = (
+    point c.corner-d.result ≡ corner s.xy.now (after s.xy.now s.k) =
+    c.corner-d.ensures.is ∙ ap (corner c.args.xy.now) c.next-m.ensures.is in
+    record {
+      close = (
         c.corner-a.ensures.close,
         c.corner-b.ensures.close,
         c.corner-c.ensures.close,
         c.corner-d.ensures.close,
-      ); reached = reached_as c.corner-a.ensures.is c.corner-b.ensures.is c.corner-c.ensures.is d-is
-          (open_reached c.args.xy.now c.args.i c.args.j c.args.k c.requires.fact) }
+      );
+      reached = reached_as c.corner-a.ensures.is c.corner-b.ensures.is c.corner-c.ensures.is d-is
+          (open_reached c.args.xy.now c.args.i c.args.j c.args.k c.requires.fact);
+    }
 
 pub returns : goal.returns
 returns c =
     let d-is : let s = c.args in
-        point c.corner-d.result ≡ corner s.xy.now (after s.xy.now s.k) =
-        c.corner-d.ensures.is ∙ ap (corner c.args.xy.now) c.next-m.ensures.is in
+    point c.corner-d.result ≡ corner s.xy.now (after s.xy.now s.k) =
+    c.corner-d.ensures.is ∙ ap (corner c.args.xy.now) c.next-m.ensures.is in
     meets_as c.corner-a.ensures.is c.corner-b.ensures.is c.corner-c.ensures.is d-is
     c.meet.result c.meet.ensures

@@ -21,13 +21,15 @@ tells e f = by_lt (to_z-of_z e) (to_z-of_z f) (λ h. h) (λ h. h)
 pub returns-then-c-a : goal.returns-then-c-a
 returns-then-c-a c =
     let f = c.ranges in
-    let both_below = and_tells (and_tells (tells f.c f.a) (tells f.c f.b)) (and_tells (tells f.d f.a) (tells f.d f.b)) in
+    let both_below = and_tells (and_tells (tells f.c f.a) (tells f.c f.b))
+    (and_tells (tells f.d f.a) (tells f.d f.b)) in
     surely (inl (if_yes both_below c.if-c-a.true))
 
 pub returns : goal.returns
 returns c =
     let f = c.ranges in
-    let both_below = and_tells (and_tells (tells f.c f.a) (tells f.c f.b)) (and_tells (tells f.d f.a) (tells f.d f.b)) in
+    let both_below = and_tells (and_tells (tells f.c f.a) (tells f.c f.b))
+    (and_tells (tells f.d f.a) (tells f.d f.b)) in
     or_tells (never (if_no both_below c.if-c-a.false))
     (and_tells (and_tells (tells f.a f.c) (tells f.b f.c))
     (and_tells (tells f.a f.d) (tells f.b f.d)))

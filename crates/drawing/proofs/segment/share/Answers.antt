@@ -17,21 +17,21 @@ returns-then-far_apart c = never (far_apart (if_yes c.far_apart.ensures c.if-far
 pub returns-then-one_side : goal.returns-then-one_side
 returns-then-one_side c =
     let first : let p = c.args in
-        let line = turn_of (point p.a) (point p.b) in
-        Tells c.one_side.result (OneSide (line (point p.c)) (line (point p.d))) =
-        let s = c.turn in
-        let t = c.turn-2 in
-        rw (held s.type_inv s.ensures, held t.type_inv t.ensures) at c.one_side.ensures in
+    let line = turn_of (point p.a) (point p.b) in
+    Tells c.one_side.result (OneSide (line (point p.c)) (line (point p.d))) =
+    let s = c.turn in
+    let t = c.turn-2 in
+    rw (held s.type_inv s.ensures, held t.type_inv t.ensures) at c.one_side.ensures in
     never (λ m. one_side (if_yes first c.if-one_side.true) m)
 
 pub meet-requires : goal.meet-requires
 meet-requires c =
     let first : let p = c.args in
-        let line = turn_of (point p.a) (point p.b) in
-        Tells c.one_side.result (OneSide (line (point p.c)) (line (point p.d))) =
-        let s = c.turn in
-        let t = c.turn-2 in
-        rw (held s.type_inv s.ensures, held t.type_inv t.ensures) at c.one_side.ensures in
+    let line = turn_of (point p.a) (point p.b) in
+    Tells c.one_side.result (OneSide (line (point p.c)) (line (point p.d))) =
+    let s = c.turn in
+    let t = c.turn-2 in
+    rw (held s.type_inv s.ensures, held t.type_inv t.ensures) at c.one_side.ensures in
     let h = c.requires in
     record { close = (h.2, h.3, h.0, h.1); reached = record { not_aside = if_no first c.if-one_side.false } }
 

@@ -10,13 +10,16 @@ use Rattle.drawing.proofs.Machine.{by_le, held}
 use Rattle.drawing.proofs.segment.touch.Goals as goal
 
 pub returns-then-dot-le0 : goal.returns-then-dot-le0
-returns-then-dot-le0 c = let d = c.dot in surely (inl (inl (le_yes (held d.type_inv d.ensures) refl c.if-dot-le0.true)))
+returns-then-dot-le0 c = let d = c.dot in surely
+    (inl (inl (le_yes (held d.type_inv d.ensures) refl c.if-dot-le0.true)))
 
 pub returns-then-dot-le0-2 : goal.returns-then-dot-le0-2
-returns-then-dot-le0-2 c = let d = c.dot-2 in surely (inl (inr (le_yes (held d.type_inv d.ensures) refl c.if-dot-le0-2.true)))
+returns-then-dot-le0-2 c = let d = c.dot-2 in
+    surely (inl (inr (le_yes (held d.type_inv d.ensures) refl c.if-dot-le0-2.true)))
 
 pub returns-then-dot-le0-3 : goal.returns-then-dot-le0-3
-returns-then-dot-le0-3 c = let d = c.dot-3 in surely (inr (inl (le_yes (held d.type_inv d.ensures) refl c.if-dot-le0-3.true)))
+returns-then-dot-le0-3 c = let d = c.dot-3 in
+    surely (inr (inl (le_yes (held d.type_inv d.ensures) refl c.if-dot-le0-3.true)))
 
 -- three of the four are above zero
 last : {w x y z : ℤ} → pos 0 <ℤ w → pos 0 <ℤ x → pos 0 <ℤ y →

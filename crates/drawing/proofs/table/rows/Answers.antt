@@ -24,13 +24,13 @@ loop-i-init c = (omega arith, rows_first)
 pub offset_bounds-known-i : goal.offset_bounds-known-i
 offset_bounds-known-i c =
     let few : c.loop-i.i < 64 =
-        omega (arith, c.requires.limits.0.shaped.few, c.loop-i-test.true) in
+    omega (arith, c.requires.limits.0.shaped.few, c.loop-i-test.true) in
     omega (arith, few)
 
 pub bounds-known-i : goal.bounds-known-i
 bounds-known-i c =
     let few : c.loop-i.i < 64 =
-        omega (arith, c.requires.limits.0.shaped.few, c.loop-i-test.true) in
+    omega (arith, c.requires.limits.0.shaped.few, c.loop-i-test.true) in
     few
 
 pub faced-requires : goal.faced-requires
@@ -41,17 +41,17 @@ faced-requires c =
 pub overflow_shr-rest : goal.overflow_shr-rest
 overflow_shr-rest c =
     let few : c.loop-i.i < 64 =
-        omega (arith, c.requires.limits.0.shaped.few, c.loop-i-test.true) in
+    omega (arith, c.requires.limits.0.shaped.few, c.loop-i-test.true) in
     few
 
 pub loop-rest-init : goal.loop-rest-init
 loop-rest-init c =
     let faces : FacedBy c.args.xy.now c.loop-i.i
-        c.faced.result =
-        let bends = c.angles-bends.ensures in
-        let i = c.loop-i.i in
-        faced_marks c.args.xy.now i c.args.known c.faced.ensures c.requires.limits.2
-        (c.requires.limits.2 i c.loop-i-test.true).left_of bends.two bends.one in
+    c.faced.result =
+    let bends = c.angles-bends.ensures in
+    let i = c.loop-i.i in
+    faced_marks c.args.xy.now i c.args.known c.faced.ensures c.requires.limits.2
+    (c.requires.limits.2 i c.loop-i-test.true).left_of bends.two bends.one in
     let small = shifted_below c.faced.result c.loop-i.i in
     let fits : c.faced.result < 2 ^ 64 = c.faced.type_inv in
     let sound = c.requires.limits.1 in
@@ -63,80 +63,94 @@ overflow_cast-j c = let l = mark_below c.loop-rest.invariant.0 c.loop-rest-test.
 pub overflow_add-j : goal.overflow_add-j
 overflow_add-j c =
     let faces : FacedBy c.args.xy.now c.loop-i.i
-        c.faced.result =
-        let bends = c.angles-bends.ensures in
-        let i = c.loop-i.i in
-        faced_marks c.args.xy.now i c.args.known c.faced.ensures c.requires.limits.2
-        (c.requires.limits.2 i c.loop-i-test.true).left_of bends.two bends.one in
+    c.faced.result =
+    let bends = c.angles-bends.ensures in
+    let i = c.loop-i.i in
+    faced_marks c.args.xy.now i c.args.known c.faced.ensures c.requires.limits.2
+    (c.requires.limits.2 i c.loop-i-test.true).left_of bends.two bends.one in
     let here : let d = c.args.xy.now in
-        let i = c.loop-i.i in
-        let j = i + mark c.loop-rest.rest in
-        (j < corners d) × (j < 64) × Angle d j i =
-        let i = c.loop-i.i in
-        let k = mark c.loop-rest.rest in
-        let on = scan_mark c.loop-rest.invariant.0 c.loop-rest-test.true in
-        let l = faces.yes (i + k) (sym (bit_from c.faced.result i k) ∙ on) in
-        (l.0, omega (arith, l.0, c.requires.limits.0.shaped.few), l.1) in
+    let i = c.loop-i.i in
+    let j = i + mark c.loop-rest.rest in
+    (j < corners d) × (j < 64) × Angle d j i =
+    let i = c.loop-i.i in
+    let k = mark c.loop-rest.rest in
+    let on = scan_mark c.loop-rest.invariant.0 c.loop-rest-test.true in
+    let l = faces.yes (i + k) (sym (bit_from c.faced.result i k) ∙ on) in
+    (l.0, omega (arith, l.0, c.requires.limits.0.shaped.few), l.1) in
     omega (arith, here.1)
 
 pub offset_bounds-known-j : goal.offset_bounds-known-j
 offset_bounds-known-j c =
     let faces : FacedBy c.args.xy.now c.loop-i.i
-        c.faced.result =
-        let bends = c.angles-bends.ensures in
-        let i = c.loop-i.i in
-        faced_marks c.args.xy.now i c.args.known c.faced.ensures c.requires.limits.2
-        (c.requires.limits.2 i c.loop-i-test.true).left_of bends.two bends.one in
+    c.faced.result =
+    let bends = c.angles-bends.ensures in
+    let i = c.loop-i.i in
+    faced_marks c.args.xy.now i c.args.known c.faced.ensures c.requires.limits.2
+    (c.requires.limits.2 i c.loop-i-test.true).left_of bends.two bends.one in
     let here : let d = c.args.xy.now in
-        let i = c.loop-i.i in
-        let j = i + mark c.loop-rest.rest in
-        (j < corners d) × (j < 64) × Angle d j i =
-        let i = c.loop-i.i in
-        let k = mark c.loop-rest.rest in
-        let on = scan_mark c.loop-rest.invariant.0 c.loop-rest-test.true in
-        let l = faces.yes (i + k) (sym (bit_from c.faced.result i k) ∙ on) in
-        (l.0, omega (arith, l.0, c.requires.limits.0.shaped.few), l.1) in
+    let i = c.loop-i.i in
+    let j = i + mark c.loop-rest.rest in
+    (j < corners d) × (j < 64) × Angle d j i =
+    let i = c.loop-i.i in
+    let k = mark c.loop-rest.rest in
+    let on = scan_mark c.loop-rest.invariant.0 c.loop-rest-test.true in
+    let l = faces.yes (i + k) (sym (bit_from c.faced.result i k) ∙ on) in
+    (l.0, omega (arith, l.0, c.requires.limits.0.shaped.few), l.1) in
     omega (arith, here.1)
 
 pub bounds-known-j : goal.bounds-known-j
 bounds-known-j c =
     let faces : FacedBy c.args.xy.now c.loop-i.i
-        c.faced.result =
-        let bends = c.angles-bends.ensures in
-        let i = c.loop-i.i in
-        faced_marks c.args.xy.now i c.args.known c.faced.ensures c.requires.limits.2
-        (c.requires.limits.2 i c.loop-i-test.true).left_of bends.two bends.one in
+    c.faced.result =
+    let bends = c.angles-bends.ensures in
+    let i = c.loop-i.i in
+    faced_marks c.args.xy.now i c.args.known c.faced.ensures c.requires.limits.2
+    (c.requires.limits.2 i c.loop-i-test.true).left_of bends.two bends.one in
     let here : let d = c.args.xy.now in
-        let i = c.loop-i.i in
-        let j = i + mark c.loop-rest.rest in
-        (j < corners d) × (j < 64) × Angle d j i =
-        let i = c.loop-i.i in
-        let k = mark c.loop-rest.rest in
-        let on = scan_mark c.loop-rest.invariant.0 c.loop-rest-test.true in
-        let l = faces.yes (i + k) (sym (bit_from c.faced.result i k) ∙ on) in
-        (l.0, omega (arith, l.0, c.requires.limits.0.shaped.few), l.1) in
+    let i = c.loop-i.i in
+    let j = i + mark c.loop-rest.rest in
+    (j < corners d) × (j < 64) × Angle d j i =
+    let i = c.loop-i.i in
+    let k = mark c.loop-rest.rest in
+    let on = scan_mark c.loop-rest.invariant.0 c.loop-rest-test.true in
+    let l = faces.yes (i + k) (sym (bit_from c.faced.result i k) ∙ on) in
+    (l.0, omega (arith, l.0, c.requires.limits.0.shaped.few), l.1) in
     here.1
 
 pub decide-requires : goal.decide-requires
 decide-requires c =
     let faces : FacedBy c.args.xy.now c.loop-i.i
-        c.faced.result =
-        let bends = c.angles-bends.ensures in
-        let i = c.loop-i.i in
-        faced_marks c.args.xy.now i c.args.known c.faced.ensures c.requires.limits.2
-        (c.requires.limits.2 i c.loop-i-test.true).left_of bends.two bends.one in
+    c.faced.result =
+    let bends = c.angles-bends.ensures in
+    let i = c.loop-i.i in
+    faced_marks c.args.xy.now i c.args.known c.faced.ensures c.requires.limits.2
+    (c.requires.limits.2 i c.loop-i-test.true).left_of bends.two bends.one in
     let here : let d = c.args.xy.now in
-        let i = c.loop-i.i in
-        let j = i + mark c.loop-rest.rest in
-        (j < corners d) × (j < 64) × Angle d j i =
-        let i = c.loop-i.i in
-        let k = mark c.loop-rest.rest in
-        let on = scan_mark c.loop-rest.invariant.0 c.loop-rest-test.true in
-        let l = faces.yes (i + k) (sym (bit_from c.faced.result i k) ∙ on) in
-        (l.0, omega (arith, l.0, c.requires.limits.0.shaped.few), l.1) in
+    let i = c.loop-i.i in
+    let j = i + mark c.loop-rest.rest in
+    (j < corners d) × (j < 64) × Angle d j i =
+    let i = c.loop-i.i in
+    let k = mark c.loop-rest.rest in
+    let on = scan_mark c.loop-rest.invariant.0 c.loop-rest-test.true in
+    let l = faces.yes (i + k) (sym (bit_from c.faced.result i k) ∙ on) in
+    (l.0, omega (arith, l.0, c.requires.limits.0.shaped.few), l.1) in
     let loop = c.loop-i in
     let h = c.requires in
-    let l = c.loop-i-test.true in record { limits = (h.limits.0, h.limits.1, omega (arith, h.all_cells_in_bounds, loop.invariant.1.size, c.loop-rest.invariant.1.size)); i_bound = (l, here.0, here.2); knows = (h.limits.2 _ l, h.limits.2 _ here.0) }
+    let l = c.loop-i-test.true in record {
+      limits = (
+        h.limits.0,
+        h.limits.1,
+        omega (
+          arith,
+          h.all_cells_in_bounds,
+          loop.invariant.1.size,
+          c.loop-rest.invariant.1.size,
+        ),
+      );
+      i_bound = (l, here.0, here.2);
+      knows =
+          (h.limits.2 _ l, h.limits.2 _ here.0);
+    }
 
 pub overflow_sub-rest : goal.overflow_sub-rest
 overflow_sub-rest c = let n = c.loop-rest-test.true in omega (arith, n)
@@ -148,20 +162,20 @@ loop-rest-smaller c =
 pub loop-rest-preserved : goal.loop-rest-preserved
 loop-rest-preserved c =
     let faces : FacedBy c.args.xy.now c.loop-i.i
-        c.faced.result =
-        let bends = c.angles-bends.ensures in
-        let i = c.loop-i.i in
-        faced_marks c.args.xy.now i c.args.known c.faced.ensures c.requires.limits.2
-        (c.requires.limits.2 i c.loop-i-test.true).left_of bends.two bends.one in
+    c.faced.result =
+    let bends = c.angles-bends.ensures in
+    let i = c.loop-i.i in
+    faced_marks c.args.xy.now i c.args.known c.faced.ensures c.requires.limits.2
+    (c.requires.limits.2 i c.loop-i-test.true).left_of bends.two bends.one in
     let here : let d = c.args.xy.now in
-        let i = c.loop-i.i in
-        let j = i + mark c.loop-rest.rest in
-        (j < corners d) × (j < 64) × Angle d j i =
-        let i = c.loop-i.i in
-        let k = mark c.loop-rest.rest in
-        let on = scan_mark c.loop-rest.invariant.0 c.loop-rest-test.true in
-        let l = faces.yes (i + k) (sym (bit_from c.faced.result i k) ∙ on) in
-        (l.0, omega (arith, l.0, c.requires.limits.0.shaped.few), l.1) in
+    let i = c.loop-i.i in
+    let j = i + mark c.loop-rest.rest in
+    (j < corners d) × (j < 64) × Angle d j i =
+    let i = c.loop-i.i in
+    let k = mark c.loop-rest.rest in
+    let on = scan_mark c.loop-rest.invariant.0 c.loop-rest-test.true in
+    let l = faces.yes (i + k) (sym (bit_from c.faced.result i k) ∙ on) in
+    (l.0, omega (arith, l.0, c.requires.limits.0.shaped.few), l.1) in
     let loop = c.loop-i in
     let h = c.requires in
     let inv = c.loop-rest.invariant in
@@ -175,7 +189,7 @@ loop-rest-preserved c =
 pub overflow_step-i : goal.overflow_step-i
 overflow_step-i c =
     let few : c.loop-i.i < 64 =
-        omega (arith, c.requires.limits.0.shaped.few, c.loop-i-test.true) in
+    omega (arith, c.requires.limits.0.shaped.few, c.loop-i-test.true) in
     omega (arith, few)
 
 pub loop-i-smaller : goal.loop-i-smaller

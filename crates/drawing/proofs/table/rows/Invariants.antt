@@ -16,7 +16,8 @@ use Rattle.drawing.proofs.Rows.{RowDone, row_start, row_decided, row_end, rows_f
 use Rattle.drawing.proofs.table.rows.Given as goal
 
 abbrev pub invariant-loop-rest : goal.invariant-loop-rest
-invariant-loop-rest l = Scan l.initial.rest l.rest (λ k. k ≡ k) × Grows l.xy (RowsDone l.xy l.i) (RowDone l.xy l.i l.rest) l.initial.cells l.cells
+invariant-loop-rest l = Scan l.initial.rest l.rest (λ k. k ≡ k) ×
+    Grows l.xy (RowsDone l.xy l.i) (RowDone l.xy l.i l.rest) l.initial.cells l.cells
 
 abbrev pub decreases-loop-rest : goal.decreases-loop-rest
 decreases-loop-rest l = l.rest
