@@ -86,7 +86,8 @@ laning_more {veil} {val} {before} {col} {col'} {g} {x} {j} {b} {m} {y} {z} veils
       };
       row_is = λ c bc cj. rows c cj (dec_lt b c) bc;
       blank = λ c cr h. get_or-set_other g b c z 0 (λ k. apart c h k) ∙ l.blank c cr (wider c h);
-      other = λ a u ur ne. get_or-set_other col (place b x) (place a u) z 0 (λ k. ne (omega arith)) ∙ l.other a u ur ne;
+      other = λ a u ur ne. get_or-set_other col (place b x) (place a u) z 0 (λ k. ne (omega arith)) ∙
+          l.other a u ur ne;
     }
   where
     kept : (a u : ℕ) → b < a → u < row → cell (set col (place b x) z) a u ≡ cell col a u

@@ -55,7 +55,8 @@ module _ (z a b : Point) where
       is_above (turn_of a b z) ≡ false
   not_left h k =
       above_no (turn_of a b z)
-      (by_ring (places z a b) Nonneg (neg ((v 2 :- v 0) :* (v 5 :- v 1)) :+ (v 3 :- v 1) :* (v 4 :- v 0)) (neg turn_of_lem)
+      (by_ring (places z a b) Nonneg (neg ((v 2 :- v 0) :* (v 5 :- v 1)) :+ (v 3 :- v 1) :* (v 4 :- v 0))
+      (neg turn_of_lem)
       refl (nonneg_add h k))
 
   pub left : Nonneg ((a.x -ℤ z.x) *ℤ (b.y -ℤ z.y)) → Nonneg (neg_ℤ ((a.y -ℤ z.y) *ℤ (b.x -ℤ z.x))) →
@@ -80,7 +81,8 @@ module _ (z a b : Point) where
 
       go : Sign (turn_of a b z) → is_above (turn_of b a z) ⊕ is_above (turn_of a b z) ≡ true
       go (plus h) =
-          ap₂ ◌⊕◌ (above_no (turn_of b a z) (by_ring (places z a b) Nonneg turn_of_lem (neg other) refl (positive_nonneg h)))
+          ap₂ ◌⊕◌ (above_no (turn_of b a z) (by_ring (places z a b) Nonneg turn_of_lem (neg other) refl
+          (positive_nonneg h)))
           (above_yes h)
       go (nought e) = absurd (some e)
       go (minus h) =
@@ -109,7 +111,8 @@ module _ (z a b : Point) where
     m0 = le_sub h;
     m1 = sub_le
         (by_ring (places z a b) Nonneg (v 5 :- v 1) (v 5 :- v 3 :- (v 1 :- v 3)) refl (positive_nonneg (lt_sub k)));
-    fx = ring1 (places z a b) ((v 5 :- v 3) :* (v 0 :- v 2)) ((v 1 :- v 3) :* (v 4 :- v 2)) (neg (con (pos 1))) turn_of_lem
+    fx = ring1 (places z a b) ((v 5 :- v 3) :* (v 0 :- v 2)) ((v 1 :- v 3) :* (v 4 :- v 2))
+        (neg (con (pos 1))) turn_of_lem
         (con (pos 0)) e refl;
     fy = ring (places z a b) ((v 5 :- v 3) :* (v 1 :- v 3)) ((v 1 :- v 3) :* (v 5 :- v 3)) refl;
   })

@@ -188,7 +188,8 @@ module _ (t : Rule) where
   left_turn_kept : (a b c : Point) → (pos 0 <ℤ turn_of a b c) ↔ (pos 0 <ℤ turn_of (image t a) (image t b) (image t c))
   left_turn_kept a b c = above_kept (turn_moved a b c)
 
-  no_right_turn_kept : (a b c : Point) → (pos 0 ≤ℤ turn_of a b c) ↔ (pos 0 ≤ℤ turn_of (image t a) (image t b) (image t c))
+  no_right_turn_kept : (a b c : Point) → (pos 0 ≤ℤ turn_of a b c) ↔
+      (pos 0 ≤ℤ turn_of (image t a) (image t b) (image t c))
   no_right_turn_kept a b c = not_below_kept (turn_moved a b c)
 
   -- ---- so what is inside an angle stays inside, and nothing else comes in

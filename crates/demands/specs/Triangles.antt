@@ -25,7 +25,8 @@ use Rattle.demands.specs.Sentences.{BothSound, last_decides}
 -- ---- three corners: each is beside each
 beside : (x : ℕ) → x < 3 → (y : ℕ) → y < 3 → (x ≡ y) ⊎ ((next 3 x ≡ y) ⊎ (next 3 y ≡ x))
 beside =
-    (all_tells 3 (λ x l. all_tells 3 (λ y m. or_tells (eq_tells _ _) (or_tells (eq_tells _ _) (eq_tells _ _))))).sure tt
+    (all_tells 3 (λ x l. all_tells 3 (λ y m. or_tells (eq_tells _ _) (or_tells (eq_tells _ _) (eq_tells _ _))))).sure
+    tt
 
 three_see : (d : List ℤ) → corners d ≡ 3 → (x y : ℕ) → x < 3 → y < 3 → CentreSees d x y
 three_see d e x y l m =

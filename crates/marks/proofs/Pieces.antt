@@ -25,7 +25,8 @@ follow_last L t e = ap (following (get_or L 2 0)) (drop_of_length-le L {i = suc 
 
 pub follow_inner : (L : List ℕ) (t : ℕ) → t < length L → ¬ (t + 1 ≡ length L) → follow L t ≡ get_or L (t + 1) 0
 follow_inner L t h n =
-    ap (following (get_or L 2 0)) (drop-cons L (suc t) 0 (omega arith)) ∙ ap (λ (k : ℕ). get_or L k 0) (sym (add-one t))
+    ap (following (get_or L 2 0)) (drop-cons L (suc t) 0 (omega arith)) ∙
+    ap (λ (k : ℕ). get_or L k 0) (sym (add-one t))
 
 pub follow_below : {n : ℕ} (L : List ℕ) (t : ℕ) → Piece n L → t < length L → follow L t < n
 follow_below {n} L t p h = go (ℕ_discrete (t + 1) (length L))

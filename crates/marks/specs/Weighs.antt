@@ -117,7 +117,8 @@ module _ (a b c e : Point) (n : Positive (turn_of a b c)) (ha : e.y <ℤ a.y) (h
   up_weighs : T up_crossings → Weighs e a b c
   up_weighs t = go (left e b a) (left e c a) (test (pos 0) (turn_of b a e)) (test (pos 0) (turn_of c a e)) t
     where
-      go : (x y : Bool) → Test (pos 0) (turn_of b a e) x → Test (pos 0) (turn_of c a e) y → T (y ⊕ (false ⊕ (x ⊕ false))) →
+      go : (x y : Bool) → Test (pos 0) (turn_of b a e) x → Test (pos 0) (turn_of c a e) y →
+          T (y ⊕ (false ⊕ (x ⊕ false))) →
           Weighs e a b c
       go true true f g t = absurd t
       go false false f g t = absurd t
@@ -160,7 +161,8 @@ module _ (a b c e : Point) (n : Positive (turn_of a b c)) (ha : a.y ≤ℤ e.y) 
   down_weighs : T down_crossings → Weighs e a b c
   down_weighs t = go (left e a b) (left e a c) (test (pos 0) (turn_of a b e)) (test (pos 0) (turn_of a c e)) t
     where
-      go : (x y : Bool) → Test (pos 0) (turn_of a b e) x → Test (pos 0) (turn_of a c e) y → T (y ⊕ (false ⊕ (x ⊕ false))) →
+      go : (x y : Bool) → Test (pos 0) (turn_of a b e) x → Test (pos 0) (turn_of a c e) y →
+          T (y ⊕ (false ⊕ (x ⊕ false))) →
           Weighs e a b c
       go true true f g t = absurd t
       go false false f g t = absurd t

@@ -13,7 +13,8 @@ use Rattle.marks.proofs.Ways.{sound_of, pair_of, bytes_fit, told_read, out_of_ra
 use Rattle.marks.proofs.carry.Goals as goal
 
 -- the pair gets a cutting
-answered : {first second : List ℤ} {before after : List ℕ} (o : Outcome) → Answers first second before (result_of o after) →
+answered : {first second : List ℤ} {before after : List ℕ} (o : Outcome) →
+    Answers first second before (result_of o after) →
     o.number ≡ 0 →
     Answers first second before (record { number = 0; count = o.pieces; bytes = o.bytes; after = after })
 answered {first} {second} {before} {after} o a e =

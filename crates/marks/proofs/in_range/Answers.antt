@@ -11,7 +11,8 @@ pub returns-then-x : goal.returns-then-x
 returns-then-x c = never (λ n. clash_ℤ (lt_yes (to_z-of_z c.ranges.x) refl c.if-x.true) n.x_low)
 
 pub returns-then-x-gt-FURTHEST : goal.returns-then-x-gt-FURTHEST
-returns-then-x-gt-FURTHEST c = never (λ n. clash_ℤ (lt_yes refl (to_z-of_z c.ranges.x) c.if-x-gt-FURTHEST.true) n.x_high)
+returns-then-x-gt-FURTHEST c = never (λ n. clash_ℤ
+    (lt_yes refl (to_z-of_z c.ranges.x) c.if-x-gt-FURTHEST.true) n.x_high)
 
 pub returns-then-y : goal.returns-then-y
 returns-then-y c =

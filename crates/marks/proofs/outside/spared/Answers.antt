@@ -21,5 +21,6 @@ returns-then-lent-spare c =
 
 pub returns : goal.returns
 returns c =
-    outside_of (length c.args.spare.now) c.args.lent (inr (c.requires, omega (arith, c.requires, c.if-lent-spare.false)))
+    outside_of (length c.args.spare.now) c.args.lent
+    (inr (c.requires, omega (arith, c.requires, c.if-lent-spare.false)))
     _ _ c.answer-cut-2.ensures.numbered c.or_ten-2.ensures

@@ -10,15 +10,27 @@ loop-at-init c = (omega arith, passed_no_piece _ _ _ _ c.requires.2)
 
 pub overflow_add-past : goal.overflow_add-past
 overflow_add-past c =
-    omega (arith, part_fits _ _ _ c.args.told.now c.loop-at.at c.loop-at-test.true c.loop-at.invariant.1 c.wide.ensures)
+    omega (
+      arith,
+      part_fits _ _ _ c.args.told.now c.loop-at.at c.loop-at-test.true c.loop-at.invariant.1
+          c.wide.ensures,
+    )
 
 pub overflow_add-past-in-loop-at : goal.overflow_add-past-in-loop-at
 overflow_add-past-in-loop-at c =
-    omega (arith, part_fits _ _ _ c.args.told.now c.loop-at.at c.loop-at-test.true c.loop-at.invariant.1 c.wide.ensures)
+    omega (
+      arith,
+      part_fits _ _ _ c.args.told.now c.loop-at.at c.loop-at-test.true c.loop-at.invariant.1
+          c.wide.ensures,
+    )
 
 pub slice_bounds-within-end : goal.slice_bounds-within-end
 slice_bounds-within-end c =
-    omega (arith, part_fits _ _ _ c.args.told.now c.loop-at.at c.loop-at-test.true c.loop-at.invariant.1 c.wide.ensures)
+    omega (
+      arith,
+      part_fits _ _ _ c.args.told.now c.loop-at.at c.loop-at-test.true c.loop-at.invariant.1
+          c.wide.ensures,
+    )
 
 pub within-landing-requires : goal.within-landing-requires
 within-landing-requires c = (
