@@ -29,7 +29,8 @@ many_corners {n} {at} {k} {bytes} q lt p =
     let part = length-take (get_or bytes at 0) (drop (at + 2) bytes) in
     omega (arith, p.fits, p.allowed.few, part, length-drop (at + 2) bytes)
 
-pub cut_short : {n at k : ℕ} {bytes : List ℕ} → k ≡ get_or bytes at 0 → length bytes < at + 2 + k → ¬ PieceAt n bytes at
+pub cut_short : {n at k : ℕ} {bytes : List ℕ} → k ≡ get_or bytes at 0 → length bytes < at + 2 + k →
+    ¬ PieceAt n bytes at
 cut_short q lt p = omega (arith, p.fits)
 
 -- a piece of 3 to n corners that fits, as the program takes them: k, and the part with the corners
@@ -92,7 +93,8 @@ piece_spelt bytes at lt fits =
     ∙ ap (λ (x : List ℕ). k ∷ get_or bytes (at + 1) 0 ∷ x)
     (sym (take-append-drop k (drop (at + 2) bytes))
     ∙ ap (λ (x : List ℕ). take k (drop (at + 2) bytes) ++ x) (drop-drop k (at + 2) bytes))
-    ∙ ap (λ (i : ℕ). i ∷ get_or bytes (at + 1) 0 ∷ (take k (drop (at + 2) bytes) ++ drop (at + 2 + k) bytes)) (sym size)
+    ∙ ap (λ (i : ℕ). i ∷ get_or bytes (at + 1) 0 ∷ (take k (drop (at + 2) bytes) ++ drop (at + 2 + k) bytes))
+    (sym size)
 
 -- bytes that are pieces, perhaps none
 abbrev Entries : ℕ → List ℕ → Type 0
@@ -176,7 +178,12 @@ listing_end {n} {at} {bytes} h le = record { sure = sure; told = λ l. lt→ltb 
     sure t = (
       l.0,
       record {
-        some = λ e. omega (arith, ltb→lt 0 (length bytes) t, ap length l.1, ap (λ (m : List Entry). length (laid m)) e);
+        some = λ e. omega (
+          arith,
+          ltb→lt 0 (length bytes) t,
+          ap length l.1,
+          ap (λ (m : List Entry). length (laid m)) e,
+        );
         are = l.1;
         each = l.2;
       },

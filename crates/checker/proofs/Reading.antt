@@ -25,7 +25,8 @@ pub record Here (bytes : List ℕ) (at : ℕ) (e : Entry) (more : List Entry) : 
 pub here : (bytes : List ℕ) (at : ℕ) (e : Entry) (more : List Entry) → drop at bytes ≡ laid (e ∷ more) →
     Here bytes at e more
 here bytes at e more h = record {
-  count = ap (λ (i : ℕ). get_or bytes i 0) zeroth ∙ sym (get_or-drop at bytes 0 0) ∙ ap (λ (l : List ℕ). get_or l 0 0) h;
+  count = ap (λ (i : ℕ). get_or bytes i 0) zeroth ∙ sym (get_or-drop at bytes 0 0) ∙
+      ap (λ (l : List ℕ). get_or l 0 0) h;
   centre = sym (get_or-drop at bytes 1 0) ∙ ap (λ (l : List ℕ). get_or l 1 0) h;
   part = ap (take k) rest ∙ take-append_seam e.corners (laid more);
   fits = omega (arith, sizes, length-drop at bytes);

@@ -36,7 +36,8 @@ readable few l = record {
       );
 }
 
-module _ {n : ℕ} {bytes : List ℕ} (first second : List ℕ) {r : Bool} (l : IsList n bytes) (h : TellsCutting n bytes r) where
+module _ {n : ℕ} {bytes : List ℕ} (first second : List ℕ) {r : Bool} (l : IsList n bytes)
+    (h : TellsCutting n bytes r) where
   pub no_cutting : r ≡ false → OfBytes (in_cells first) (in_cells second) n bytes (says 22)
   no_cutting e = inr (l.0, l.1, inl (if_no (h l.0 l.1) e, refl))
 

@@ -26,4 +26,5 @@ first_fault-requires c =
 pub returns : goal.returns
 returns c =
     let l = if_yes c.is_list.ensures c.if-not-is_list.false in
-    first_at_fault c.args.first.now c.args.second.now l c.is_cutting.ensures c.if-not-is_cutting.false c.first_fault.ensures
+    first_at_fault c.args.first.now c.args.second.now l c.is_cutting.ensures c.if-not-is_cutting.false
+    c.first_fault.ensures

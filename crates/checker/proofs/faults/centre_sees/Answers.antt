@@ -34,4 +34,5 @@ loop-i-preserved c =
     (sym c.as_centre.ensures ∙ c.if-not-as_centre.false)
 
 pub returns : goal.returns
-returns c = told_by (all_end _ _ c.loop-i-test.false c.loop-i.invariant) (tests c.args.sight.now c.args.corners.now c.args.centre)
+returns c = told_by (all_end _ _ c.loop-i-test.false c.loop-i.invariant)
+    (tests c.args.sight.now c.args.corners.now c.args.centre)

@@ -7,7 +7,8 @@ use Rattle.rules.proofs.Lays.{all}
 use Rattle.checker.proofs.faults.centre_sees.Given as goal
 
 abbrev pub invariant-loop-i : goal.invariant-loop-i
-invariant-loop-i l = all (centre_sees l.sight l.centre) l.corners ≡ all (centre_sees l.sight l.centre) (drop l.i l.corners)
+invariant-loop-i l = all (centre_sees l.sight l.centre) l.corners ≡ all (centre_sees l.sight l.centre)
+    (drop l.i l.corners)
 
 abbrev pub decreases-loop-i : goal.decreases-loop-i
 decreases-loop-i l = l.i-end - l.i

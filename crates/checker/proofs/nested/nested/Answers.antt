@@ -8,13 +8,17 @@ use Rattle.checker.proofs.nested.nested.Goals as goal
 
 pub mark-requires : goal.mark-requires
 mark-requires c =
-    let s = c.requires in
-    (readable s.fewest_corners_le_n.1 s.fewest_corners_le_n.2, zero_cells s.closings_value.0, zero_cells s.closings_value.1)
+    let s = c.requires in (
+      readable s.fewest_corners_le_n.1 s.fewest_corners_le_n.2,
+      zero_cells s.closings_value.0,
+      zero_cells s.closings_value.1,
+    )
 
 pub returns-then-not-mark : goal.returns-then-not-mark
 returns-then-not-mark c =
     let s = c.requires in
-    closed_twice s.fewest_corners_le_n.0 s.fewest_corners_le_n.1 s.closings_value.0 s.closings_value.1 c.mark.ensures c.if-not-mark.true
+    closed_twice s.fewest_corners_le_n.0 s.fewest_corners_le_n.1 s.closings_value.0 s.closings_value.1 c.mark.ensures
+    c.if-not-mark.true
 
 pub bounds-closings-n : goal.bounds-closings-n
 bounds-closings-n c =
@@ -23,7 +27,8 @@ bounds-closings-n c =
 pub returns-then-closings-n-eq0 : goal.returns-then-closings-n-eq0
 returns-then-closings-n-eq0 c =
     let s = c.requires in
-    none_whole s.fewest_corners_le_n.0 s.fewest_corners_le_n.1 s.closings_value.0 s.closings_value.1 c.mark.ensures c.if-not-mark.false c.if-closings-n-eq0.true
+    none_whole s.fewest_corners_le_n.0 s.fewest_corners_le_n.1 s.closings_value.0 s.closings_value.1 c.mark.ensures
+    c.if-not-mark.false c.if-closings-n-eq0.true
 
 pub bounds-steps-n : goal.bounds-steps-n
 bounds-steps-n c =
@@ -41,5 +46,6 @@ all_fit-requires c =
 pub returns : goal.returns
 returns c =
     let s = c.requires in
-    all_told s.fewest_corners_le_n.0 s.fewest_corners_le_n.1 s.closings_value.0 s.closings_value.1 c.mark.ensures c.if-not-mark.false c.if-closings-n-eq0.false
+    all_told s.fewest_corners_le_n.0 s.fewest_corners_le_n.1 s.closings_value.0 s.closings_value.1 c.mark.ensures
+    c.if-not-mark.false c.if-closings-n-eq0.false
     c.all_fit.ensures
