@@ -30,22 +30,14 @@ fn served(n: usize, first: &[u8], second: &[u8]) -> bool
     second.len() >= ALL_CELLS
 }
 
-// For the arms of a `match` that cannot be reached.
-fn never() -> Outcome
-    requires { ⊥ }
-    ensures { ⊥ }
-{
-    refused(0)
-}
-
 // The cutting that stands in `pairs` is told.
 fn tell(n: usize, pairs: &[u8], first: &[u8], second: &[u8], room: &mut [u8]) -> Outcome
     requires { FirstMarked n first.now second.now pairs.now × Roomy n (length room.old) }
     ensures { Cuts n first.now second.now room.old (result_of result room.new) }
 {
     match telling::tell(n, pairs, first, second, room) {
-        Told::Unserved => never(),
-        Told::Short => never(),
+        Told::Unserved => unreachable!(),
+        Told::Short => unreachable!(),
         Told::Pieces { pieces, bytes } => Outcome {
             number: 0,
             pieces: pieces,
@@ -60,7 +52,7 @@ fn search(n: usize, first: &[u8], second: &[u8], pairs: &mut [u8], room: &mut [u
     ensures { Cuts n first.now second.now room.old (result_of result room.new) }
 {
     match cutting::search(n, first, second, pairs) {
-        Searched::Unserved => never(),
+        Searched::Unserved => unreachable!(),
         Searched::NoCutting => refused(9),
         Searched::Found => tell(n, pairs, first, second, room),
     }

@@ -4,8 +4,8 @@ use borrow.Author.Rules.{rules}
 use Rattle.desk.proofs.Cutting.{searched_served, searched_marked, cut_9}
 use Rattle.desk.proofs.cut.search.Goals as goal
 
-pub never-requires : goal.never-requires
-never-requires c =
+pub unreachable-requires : goal.unreachable-requires
+unreachable-requires c =
     let pre = c.requires in
     searched_served pre.0 pre.2 c.in-Unserved.ensures refl
 
