@@ -11,7 +11,7 @@ use lib.Seq.{drop-cons}
 use Rattle.limits.specs.Limits.{row, place}
 use Rattle.rules.specs.Lists.{In}
 use Rattle.rules.specs.Cutting.{last, closing}
-use Rattle.rules.proofs.Lays.{all, some}
+use Rattle.rules.specs.Lays.{all, some}
 use Rattle.checker.specs.Parts.{Corners, along, each_step, step_on, stepped}
 
 pub some_corner : {S : List ℕ} → Corners S → 0 < length S

@@ -10,7 +10,7 @@ use lib.ListN.{length, get_or, take, drop, length-take, length-drop, drop_of_len
 use lib.Seq.{drop-cons, drop-drop}
 use Rattle.outline.specs.Tells.{Tells, as_well, if_no}
 use Rattle.rules.specs.Lists.{In}
-use Rattle.rules.proofs.Lays.{some}
+use Rattle.rules.specs.Lays.{some}
 use Rattle.checker.specs.Checks.{Entry, laid, Allowed, Listed, IsList}
 use Rattle.checker.specs.Parts.{piece, each_step, rises, piece_at, PieceAt}
 use Rattle.checker.proofs.Reading.{Here, here, here_is}

@@ -7,8 +7,8 @@ use native.Mathlib.Omega.{arith}
 use lib.ListN.{length}
 use Rattle.rules.specs.Lists.{In, Rising, rise_from, rise_last}
 use Rattle.rules.specs.Cutting.{Inside, Outside, last}
-use Rattle.rules.proofs.Trees.{rise_is_last}
-use Rattle.rules.proofs.Regions.{last_of}
+use Rattle.rules.specs.Trees.{rise_is_last}
+use Rattle.rules.specs.Regions.{last_of}
 use Rattle.checker.specs.Nested.{Step}
 
 -- a member of a rising list that is above its first number comes after it

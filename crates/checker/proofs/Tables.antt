@@ -15,7 +15,7 @@ use Rattle.outline.specs.Tells.{and_tells, not_tells, eq_tells}
 use Rattle.rules.specs.Lists.{In, Distinct}
 use Rattle.rules.specs.Cutting.{closing}
 use Rattle.rules.specs.Cells.{filled}
-use Rattle.rules.proofs.Count.{ends}
+use Rattle.rules.specs.Count.{ends}
 use Rattle.checker.specs.Steps.{Step, Steps, Stepped, Closed, Shape, spans}
 use Rattle.checker.specs.Parts.{closed, step_on, stepped, Marks}
 

@@ -13,7 +13,7 @@ use Rattle.outline.specs.Tells.{Tells, and_tells, as_well, eq_tells}
 use Rattle.rules.specs.Lists.{In, Rising}
 use Rattle.rules.specs.Cutting.{Near, last}
 use Rattle.rules.specs.Cells.{cell, centre_sees}
-use Rattle.rules.proofs.Lays.{all, some, all_passes, passes_all, some_first, passes_some}
+use Rattle.rules.specs.Lays.{all, some, all_passes, passes_all, some_first, passes_some}
 use Rattle.checker.specs.Checks.{Entry, Allowed, LinesSeen, CentreSeesAll}
 use Rattle.checker.specs.Nested.{Step, Steps}
 use Rattle.checker.specs.Parts.{Corners, piece, along, each_step, rises, closed, in_cells, strictly_sees}

@@ -10,7 +10,8 @@ use Rattle.rules.specs.Lists.{In, Distinct}
 use Rattle.rules.specs.Cutting.{Pairs, Region, pieces}
 use Rattle.rules.specs.Centre.{Lowest, lowest_one, size}
 use Rattle.rules.proofs.Regions.{pieces_regions, pieces_distinct}
-use Rattle.rules.proofs.Count.{distinct_map, pieces_size}
+use Rattle.rules.specs.Count.{distinct_map}
+use Rattle.rules.proofs.Count.{pieces_size}
 use Rattle.rules.specs.Refusals.{line, FirstFailed, passed}
 use Rattle.rules.specs.Result.{Result}
 use Rattle.desk.specs.Answer.{InBoth, ValidCutting, of_cutting, asked, Answers}

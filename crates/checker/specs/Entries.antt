@@ -5,9 +5,9 @@ use Rattle.std.proofs.Common.{sym, ap, subst, inl, inr, arith}
 use Rattle.rules.specs.Lists.{In, Rising, rise_last}
 use Rattle.rules.specs.Cutting.{Pairs, Region}
 use Rattle.rules.specs.Centre.{Layout}
-use Rattle.rules.proofs.Walk.{rise_length}
-use Rattle.rules.proofs.Regions.{last_of}
-use Rattle.rules.proofs.Count.{in_map, map_in}
+use Rattle.rules.specs.Walk.{rise_length}
+use Rattle.rules.specs.Regions.{last_of}
+use Rattle.rules.specs.Count.{in_map, map_in}
 use Rattle.checker.specs.Checks.{Entry, laid, Allowed, corner_lists}
 
 -- ---- centre and corners make an entry

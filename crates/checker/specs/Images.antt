@@ -2,7 +2,7 @@
 use Rattle.std.specs.Prelude.{◌≡◌, List, [], ◌∷◌, map}
 use Rattle.std.proofs.Common.{sym, ◌∙◌, inl, inr}
 use Rattle.rules.specs.Lists.{In, Distinct}
-use Rattle.rules.proofs.Count.{in_map}
+use Rattle.rules.specs.Count.{in_map}
 
 module _ {A B : Type 0} (f : A → B) where
   pub images_distinct : (l : List A) → Distinct (map f l) → Distinct l

@@ -8,19 +8,19 @@ use Rattle.std.proofs.Common.{sym, ap, ◌∙◌, subst, arith}
 use Rattle.std.proofs.Math.Logic.{⊎_map}
 use Rattle.rules.specs.Lists.{In, Distinct}
 use Rattle.rules.specs.Cutting.{Pairs, Region, Tree, told, tree, pieces}
-use Rattle.rules.proofs.Trees.{Range}
+use Rattle.rules.specs.Trees.{Range}
 use Rattle.rules.proofs.Lines.{range_wide}
 use Rattle.rules.proofs.Regions.{region_same, tree_all, pieces_regions}
-use Rattle.rules.proofs.Uses.{uses}
+use Rattle.rules.specs.Uses.{uses}
 use Rattle.rules.proofs.Valid.{pieces_uses, range_valid}
-use Rattle.rules.proofs.Count.{distinct_map}
+use Rattle.rules.specs.Count.{distinct_map}
 use Rattle.checker.specs.Checks.{PiecesOf}
 use Rattle.checker.specs.Images.{images_distinct}
 use Rattle.checker.specs.Steps.{Spans, spans}
 use Rattle.checker.specs.TreeSteps.{told_whole, told_under, told_over}
 use Rattle.checker.specs.NestedTree.{Any, Among, grown}
 use Rattle.checker.specs.TreeTells.{tells_all}
-pub use Rattle.rules.proofs.Count.{ends}
+pub use Rattle.rules.specs.Count.{ends}
 pub use Rattle.checker.specs.Steps.{Step, Steps, Stepped, Closed, Shape}
 
 pub record Nested (n : ℕ) (L : List (List ℕ)) : Type 0 where

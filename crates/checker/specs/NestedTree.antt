@@ -8,7 +8,7 @@ use Rattle.std.proofs.Common.{sym, ap, subst, inl, inr, arith}
 use Rattle.std.proofs.Math.Decide.{dec_lt}
 use Rattle.rules.specs.Lists.{In, Rise}
 use Rattle.rules.specs.Cutting.{Tree, leaf, link, corners}
-use Rattle.rules.proofs.Trees.{Chain, Line, Range, chain_rise, range_line}
+use Rattle.rules.specs.Trees.{Chain, Line, Range, chain_rise, range_line}
 use Rattle.checker.specs.Steps.{Step, Steps, Closed, Shape, before_last, narrow, ends_of, spans_line}
 
 -- the trees in question: any pair may be a cut, and the pieces are those of the list L

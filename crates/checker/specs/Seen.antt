@@ -7,7 +7,7 @@ use Rattle.outline.specs.Drawing.{corners, next, Sees}
 use Rattle.rules.specs.Lists.{In, rise_last, rise_from}
 use Rattle.rules.specs.Cutting.{Pairs, Side, Uncrossed, Joined, Near, Region, corners as corners_of}
 use Rattle.rules.specs.Centre.{Centre}
-use Rattle.rules.proofs.TreeOf.{of_rise}
+use Rattle.rules.specs.TreeOf.{of_rise}
 use Rattle.rules.proofs.Regions.{pair_line, line_pair, line_region}
 use Rattle.desk.specs.Answer.{Cut, InBoth, ValidCutting}
 use Rattle.checker.specs.Checks.{Entry, sight_in}

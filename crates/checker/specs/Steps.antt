@@ -7,9 +7,9 @@ use Rattle.std.specs.Prelude.{◌≡◌, refl, ◌⊎◌, List, [], ◌∷◌, �
 use Rattle.std.proofs.Common.{ap, subst, inl, inr, arith}
 use Rattle.rules.specs.Lists.{In, Rising, Rise, rise_le, rise_last}
 use Rattle.rules.specs.Cutting.{last}
-use Rattle.rules.proofs.Trees.{rise_is_last}
-use Rattle.rules.proofs.Regions.{last_of}
-use Rattle.rules.proofs.Count.{ends}
+use Rattle.rules.specs.Trees.{rise_is_last}
+use Rattle.rules.specs.Regions.{last_of}
+use Rattle.rules.specs.Count.{ends}
 
 -- x and y follow each other in the list a ∷ s
 abbrev pub Step : ℕ → List ℕ → ℕ → ℕ → Type 0

@@ -3,9 +3,10 @@ use Rattle.std.specs.Prelude.{◌≡◌, refl, ◌⊎◌, List, ◌∷◌, ℕ, 
 use Rattle.std.proofs.Common.{sym, ap, ◌∙◌, subst, inl, inr, ⊎_elim, arith}
 use Rattle.rules.specs.Lists.{In, in_left, in_right, in_split}
 use Rattle.rules.specs.Cutting.{Tree, leaf, link, corners, below, told}
-use Rattle.rules.proofs.Trees.{Node, Chain, Line, Range, chain_rise, range_node}
-use Rattle.rules.proofs.Lines.{Stands, top_told, below_told, stands_told, Piece, top_cases, told_stands, stands_in}
-use Rattle.rules.proofs.Count.{ends}
+use Rattle.rules.specs.Trees.{Node, Chain, Line, Range, chain_rise, range_node}
+use Rattle.rules.specs.Lines.{Stands, top_told, below_told, stands_told, Piece, top_cases, told_stands}
+use Rattle.rules.proofs.Lines.{stands_in}
+use Rattle.rules.specs.Count.{ends}
 use Rattle.checker.specs.Steps.{Step, Steps, Stepped, Closed, ends_of}
 
 -- a piece with a step is no side

@@ -4,9 +4,9 @@ use Rattle.std.specs.Prelude.{◌≡◌, ◌⊎◌, List, map, ℕ, zero, suc, �
 use Rattle.std.proofs.Common.{sym, ◌∙◌, subst, ⊎_elim, arith}
 use Rattle.rules.specs.Lists.{In, Distinct}
 use Rattle.rules.specs.Cutting.{Tree, told}
-use Rattle.rules.proofs.Trees.{Range}
+use Rattle.rules.specs.Trees.{Range}
 use Rattle.rules.proofs.Valid.{told_ok}
-use Rattle.rules.proofs.Count.{ends}
+use Rattle.rules.specs.Count.{ends}
 use Rattle.checker.specs.Images.{image_same}
 use Rattle.checker.specs.Steps.{Steps, Stepped, Closed, Shape, narrow, Spans, spans}
 use Rattle.checker.specs.TreeSteps.{told_whole, told_under}

@@ -1,7 +1,7 @@
 // Whether bytes are a list of pieces: number 21.
 ghost use Rattle.std.specs.Prelude.{◌≡◌, ◌<◌, eqb, length};
 ghost use Rattle.outline.specs.Tells.{Tells};
-ghost use Rattle.rules.proofs.Lays.{some};
+ghost use Rattle.rules.specs.Lays.{some};
 ghost use Rattle.checker.specs.Checks.{IsList};
 ghost use Rattle.checker.specs.Parts.{each_step, rises, PieceAt};
 

@@ -15,8 +15,9 @@ use Rattle.rules.specs.Cutting.{Pairs, Inner}
 use Rattle.rules.specs.Cells.{cell, InBoth, marked, marked_cell, marked_same}
 use Rattle.rules.specs.Plan.{stars, FirstBy}
 use Rattle.rules.specs.Refusals.{FirstFailed}
-use Rattle.rules.proofs.Agree.{Agree, stars_agree, valid_same, first_same}
-use Rattle.rules.proofs.Ways.{Sees}
+use Rattle.rules.specs.Agree.{Agree, stars_agree}
+use Rattle.rules.proofs.Agree.{valid_same, first_same}
+use Rattle.rules.specs.Ways.{Sees}
 use Rattle.cutting.specs.declared.Searched.{Searched}
 use Rattle.cutting.specs.declared.Searched.TheVariants.{Unserved, NoCutting, Found}
 use Rattle.cutting.specs.Answer.{MayCut, plan, Served, asked, bit, Marks, number, Searches}

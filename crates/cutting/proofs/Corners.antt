@@ -9,12 +9,12 @@ use lib.Dec.{ltb, eqb}
 use Rattle.rules.specs.Cutting.{one}
 use Rattle.limits.specs.Limits.{row}
 use Rattle.cutting.specs.Rows.{none}
-use Rattle.rules.proofs.Columns.{costs}
-use Rattle.rules.proofs.Choice.{Sought, rest_of, fits, less, better, pick_from, pick_of}
+use Rattle.rules.specs.Columns.{costs}
+use Rattle.rules.specs.Choice.{Sought, rest_of, fits, less, better, pick_from, pick_of}
 use Rattle.rules.specs.Cells.{cell}
 use Rattle.cutting.specs.Tracing.{next_in, rest_in, Next}
-use Rattle.rules.proofs.Seek.{sought_unique, step_is, next_left, next_right}
-use Rattle.rules.proofs.Follow.{next_goes, rest_next, Goes}
+use Rattle.rules.specs.Seek.{sought_unique, step_is, next_left, next_right}
+use Rattle.rules.specs.Follow.{next_goes, rest_next, Goes}
 
 -- ---- what the code finds is the next corner
 module _ {val left col : List ℕ} {x j c d : ℕ} (xj : x ≤ j) where

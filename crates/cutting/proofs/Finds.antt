@@ -14,13 +14,13 @@ use Rattle.limits.specs.Limits.{row, place}
 use Rattle.rules.specs.Cutting.{Pairs, First, Valid, one}
 use Rattle.rules.specs.Centre.{HasCentre}
 use Rattle.rules.specs.Cells.{cell, marked}
-use Rattle.rules.proofs.Table.{Table}
+use Rattle.rules.specs.Table.{Table}
 use Rattle.rules.proofs.Answer.{table_refuses}
-use Rattle.rules.proofs.Columns.{Columned, Solved}
-use Rattle.rules.proofs.Choice.{choice_of}
-use Rattle.rules.proofs.Traced.{Whole}
-use Rattle.rules.proofs.Small.{best_of, min_low}
-use Rattle.rules.proofs.Ways.{Sees}
+use Rattle.rules.specs.Columns.{Columned, Solved}
+use Rattle.rules.specs.Choice.{choice_of}
+use Rattle.rules.specs.Traced.{Whole}
+use Rattle.rules.specs.Small.{best_of, min_low}
+use Rattle.rules.specs.Ways.{Sees}
 use Rattle.rules.proofs.Picks.{table}
 use Rattle.rules.proofs.Trace.{traced_first}
 use Rattle.cutting.specs.Rows.{none, Cut, Veil, Lines, Rights, Filled}

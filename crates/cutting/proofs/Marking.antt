@@ -11,7 +11,7 @@ use borrow.Author.Count.{below_more}
 use lib.Seq.{get_or-set_same, get_or-set_other}
 use Rattle.limits.specs.Limits.{row, all_cells, place}
 use Rattle.rules.specs.Cells.{cell, marked, filled_is, marked_wide, marked_small, marked_is}
-use Rattle.rules.proofs.Traced.{LineOfRoad}
+use Rattle.rules.specs.Traced.{LineOfRoad}
 use Rattle.cutting.specs.Tracing.{Ticks, Ticked, Marked, Cleared, Started}
 
 pub above : (z : ℕ) → ¬ (z ≡ 0) → 0 < z

@@ -11,8 +11,8 @@ use lib.ListN.{length, set}
 use lib.Seq.{get_or-set_same, get_or-set_other}
 use Rattle.limits.specs.Limits.{row, all_cells, place}
 use Rattle.rules.specs.Cells.{cell}
-use Rattle.rules.proofs.Columns.{pays, Least, Lane}
-use Rattle.rules.proofs.Small.{least_same}
+use Rattle.rules.specs.Columns.{pays, Least, Lane}
+use Rattle.rules.specs.Small.{least_same}
 use Rattle.cutting.specs.Rows.{none, lane, Veil, Blank, Reach, LaneOf, Laned}
 use Rattle.cutting.specs.Tracing.{fits_in, LowestFit, Lanes}
 use Rattle.cutting.proofs.Values.{clash}

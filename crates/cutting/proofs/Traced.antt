@@ -12,14 +12,14 @@ use Rattle.limits.specs.Limits.{row}
 use Rattle.rules.specs.Cutting.{Pairs, one}
 use Rattle.rules.specs.Centre.{HasCentre}
 use Rattle.rules.specs.Cells.{cell, marked}
-use Rattle.rules.proofs.Table.{Table, Way, Closes}
-use Rattle.rules.proofs.Choice.{rest_of, fits, pick_of, choice_of}
-use Rattle.rules.proofs.Ways.{Sees}
-use Rattle.rules.proofs.Owns.{diag}
+use Rattle.rules.specs.Table.{Table, Way, Closes}
+use Rattle.rules.specs.Choice.{rest_of, fits, pick_of, choice_of}
+use Rattle.rules.specs.Ways.{Sees}
+use Rattle.rules.specs.Owns.{diag}
 use Rattle.rules.proofs.Picks.{table, pick_within, pick_fits}
-use Rattle.rules.proofs.Again.{SameTables, next_same, rest_same, lane_unique, fits_same, pick_same}
-use Rattle.rules.proofs.Unbeaten.{pick_lowest}
-use Rattle.rules.proofs.Traced.{LineOfRoad, Whole, Traced}
+use Rattle.rules.specs.Again.{SameTables, next_same, rest_same, lane_unique, fits_same, pick_same}
+use Rattle.rules.specs.Unbeaten.{pick_lowest}
+use Rattle.rules.specs.Traced.{LineOfRoad, Whole, Traced}
 use Rattle.rules.proofs.Trace.{line_narrow}
 use Rattle.cutting.specs.Rows.{none, Cut, LaneOf}
 use Rattle.cutting.specs.Tracing.{rest_in, fits_in, pick_in, EveryIn, LowestFit}

@@ -3,8 +3,8 @@ use Rattle.std.specs.Prelude.{◌≡◌, List, ℕ, suc, ◌+◌, ◌*◌, ◌-�
 use Rattle.limits.specs.Limits.{row, all_cells}
 use Rattle.rules.specs.Cutting.{one}
 use Rattle.rules.specs.Cells.{cell}
-use Rattle.rules.proofs.Table as rules
-use Rattle.rules.proofs.Columns.{pays, Least, Lane, Columned}
+use Rattle.rules.specs.Table as rules
+use Rattle.rules.specs.Columns.{pays, Least, Lane, Columned}
 
 -- what a cell holds where there is no way
 abbrev pub none : ℕ

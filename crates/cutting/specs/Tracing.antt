@@ -4,11 +4,11 @@ use Rattle.limits.specs.Limits.{row, all_cells}
 use Rattle.rules.specs.Cutting.{Pairs, Valid, First, one}
 use Rattle.rules.specs.Centre.{HasCentre}
 use Rattle.rules.specs.Cells.{cell, marked}
-use Rattle.rules.proofs.Columns.{Solved}
-use Rattle.rules.proofs.Choice.{next_of, rest_of, fits, better, pick_of, choice_of}
-use Rattle.rules.proofs.Ways.{Sees}
-use Rattle.rules.proofs.Unbeaten.{Every}
-use Rattle.rules.proofs.Traced.{LineOfRoad, Traced}
+use Rattle.rules.specs.Columns.{Solved}
+use Rattle.rules.specs.Choice.{next_of, rest_of, fits, better, pick_of, choice_of}
+use Rattle.rules.specs.Ways.{Sees}
+use Rattle.rules.specs.Unbeaten.{Every}
+use Rattle.rules.specs.Traced.{LineOfRoad, Traced}
 use Rattle.cutting.specs.Rows.{none, Cut, Rights, Filled, LaneOf}
 
 -- ---- the piece that is taken, read off the tables

@@ -7,7 +7,8 @@ use Rattle.rules.specs.Cutting.{Pairs, one}
 use Rattle.rules.specs.Centre.{HasCentre}
 use Rattle.rules.specs.Cells.{InBoth, marked}
 use Rattle.rules.specs.Refusals.{FirstFailed, failed_unique}
-use Rattle.rules.proofs.Valid.{first_same, same_set}
+use Rattle.rules.specs.Valid.{same_set}
+use Rattle.rules.proofs.Valid.{first_same}
 use Rattle.cutting.specs.Answer.{MayCut, number, Served, asked, bit, Marks, Searches}
 use Rattle.cutting.specs.declared.Searched.{Searched}
 use Rattle.cutting.specs.declared.Searched.TheVariants.{Unserved, NoCutting, Found}

@@ -3,8 +3,8 @@
 // the column (`again`).
 ghost use Rattle.std.specs.Prelude.{◌≡◌, true, ◌+◌, ◌<◌, ◌≤◌, length};
 ghost use Rattle.limits.specs.Limits.{row, all_cells};
-ghost use Rattle.rules.proofs.Columns.{costs};
-ghost use Rattle.rules.proofs.Choice.{Sought, less};
+ghost use Rattle.rules.specs.Columns.{costs};
+ghost use Rattle.rules.specs.Choice.{Sought, less};
 ghost use Rattle.rules.specs.Cells.{cell};
 ghost use Rattle.cutting.specs.Rows.{none, Veil};
 ghost use Rattle.cutting.specs.Tracing.{Routes, Next, rest_in, fits_in, better_in, pick_in};

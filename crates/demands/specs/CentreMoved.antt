@@ -13,7 +13,8 @@ use Rattle.outline.specs.Placed.{On}
 use Rattle.outline.specs.Parity.{InOn, out, large}
 use Rattle.outline.specs.Scale.{in_back}
 use Rattle.outline.specs.EveryPoint.{Sight}
-use Rattle.outline.proofs.Reading.{round, round_inner, round_closed, sight_read, sight_said}
+use Rattle.outline.specs.Reading.{round, round_inner, round_closed}
+use Rattle.outline.proofs.Reading.{sight_read, sight_said}
 use Rattle.demands.specs.Entered.{Rule, move}
 use Rattle.demands.specs.MovedPoints.{factor, image, numbers, factor_of, grown_rule, grown_moved}
 use Rattle.demands.specs.Moved.{corners_moved, corner_moved}

@@ -13,7 +13,8 @@ use Rattle.outline.specs.Odd.{◌⊕◌}
 use Rattle.outline.specs.Xor.{⊕-no, ⊕-comm}
 use Rattle.outline.specs.Parity.{odd, OnSide, InOn, out, large}
 use Rattle.outline.specs.EveryPoint.{Sight}
-use Rattle.outline.proofs.Reading.{round, round_inner, round_closed, sight_read, sight_said}
+use Rattle.outline.specs.Reading.{round, round_inner, round_closed}
+use Rattle.outline.proofs.Reading.{sight_read, sight_said}
 use Rattle.demands.specs.Entered.{turned}
 use Rattle.demands.specs.Turned.{corners_turned, corner_turned}
 use Rattle.demands.specs.SameOutline.{sight_same}

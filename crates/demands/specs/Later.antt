@@ -12,9 +12,9 @@ use Rattle.outline.specs.Drawing.{corners}
 use Rattle.pair.specs.Passing.{SoundPair}
 use Rattle.rules.specs.Lists.{In}
 use Rattle.rules.specs.Cutting.{Pairs, Inner, Uncrossed, Tree, leaf, link, tree, told, pieces, flat, run, Less, one}
-use Rattle.rules.proofs.Trees.{Node}
+use Rattle.rules.specs.Trees.{Node}
 use Rattle.rules.proofs.Valid.{first_unique}
-use Rattle.rules.proofs.Uses.{uses}
+use Rattle.rules.specs.Uses.{uses}
 use Rattle.desk.specs.Answer.{plan, ValidCutting, FirstCutting}
 use Rattle.demands.specs.Checks.{every, every_passes}
 use Rattle.demands.specs.Smallest.{listed, smallest, smallest_first, listed_told, listed_valid}

@@ -12,8 +12,8 @@ use Rattle.pair.specs.Passing.{first_shaped, second_shaped}
 use Rattle.pair.proofs.Passing.{sound_pair}
 use Rattle.rules.specs.Refusals.{Line, FirstFailed, all_hold}
 use Rattle.rules.specs.Cutting.{Tree, told}
-use Rattle.rules.proofs.Uses.{uses}
-use Rattle.rules.proofs.Lays.{lays}
+use Rattle.rules.specs.Uses.{uses}
+use Rattle.rules.specs.Lays.{lays}
 use Rattle.desk.specs.Answer.{asked}
 use Rattle.demands.specs.Program.{Program, Meets, Expected, cutting, refusal, writing, Gives}
 use Rattle.demands.specs.Lines.{earlier_hold}

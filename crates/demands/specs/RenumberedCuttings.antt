@@ -8,7 +8,8 @@ use Rattle.outline.specs.Round.{next_inner, next_last}
 use Rattle.rules.specs.Cutting.{Pairs, Valid, pieces}
 use Rattle.rules.specs.Centre.{HasCentre}
 use Rattle.rules.specs.Turn.{Moved, centre_turn}
-use Rattle.rules.proofs.Renumber.{Carried, turn, turn_valid, turn_pieces}
+use Rattle.rules.specs.Renumber.{Carried, turn}
+use Rattle.rules.proofs.Renumber.{turn_valid, turn_pieces}
 use Rattle.pair.specs.Pair.{Alike}
 use Rattle.desk.specs.Answer.{InBoth, Cut, ValidCutting}
 use Rattle.demands.specs.Entered.{turned, turned_by}

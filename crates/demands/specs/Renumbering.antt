@@ -8,7 +8,7 @@ use Rattle.outline.specs.Drawing.{corners}
 use Rattle.pair.specs.Pair.{Alike}
 use Rattle.rules.specs.Cutting.{pieces}
 use Rattle.rules.specs.Centre.{layout_size}
-use Rattle.rules.proofs.Trees.{weight_one}
+use Rattle.rules.specs.Trees.{weight_one}
 use Rattle.rules.proofs.Count.{pieces_size}
 use Rattle.rules.specs.Refusals.{FirstFailed, failed_unique, same_failed}
 use Rattle.rules.specs.Result.{Result, Given}

@@ -10,7 +10,8 @@ use Rattle.pair.specs.Pair.{Alike, Anticlockwise, of_drawing}
 use Rattle.rules.specs.Refusals.{Line, SameAsked, end, same, same_failed}
 use Rattle.rules.specs.Plan.{Cuttable}
 use Rattle.rules.specs.Result.{Result, Given}
-use Rattle.rules.proofs.Agree.{Agree, stars_agree, cuttable_same, given_same}
+use Rattle.rules.specs.Agree.{Agree, stars_agree}
+use Rattle.rules.proofs.Agree.{cuttable_same, given_same}
 use Rattle.desk.specs.Answer.{Cut, InBoth, plan, asked, Answers}
 use Rattle.demands.specs.Lines.{given_alike}
 

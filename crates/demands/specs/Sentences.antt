@@ -17,9 +17,9 @@ use Rattle.pair.proofs.Passing.{sound_pair, drawings_hold}
 use Rattle.rules.specs.Lists.{In, rise_in}
 use Rattle.rules.specs.Cutting.{Pairs, pieces, run, Less}
 use Rattle.rules.specs.Centre.{HasCentre}
-use Rattle.rules.proofs.Trees.{weight_one}
-use Rattle.rules.proofs.Valid.{valid_map}
-use Rattle.rules.proofs.Agree.{has_centre_map}
+use Rattle.rules.specs.Trees.{weight_one}
+use Rattle.rules.specs.Valid.{valid_map}
+use Rattle.rules.specs.Agree.{has_centre_map}
 use Rattle.rules.specs.Refusals.{FirstFailed, Hold, failed_unique, put_in, among}
 use Rattle.rules.specs.Plan.{ValidBy, Cuttable}
 use Rattle.rules.specs.Result.{Result, Refused, Given}

@@ -15,12 +15,16 @@ use Rattle.rules.specs.Lists.{In}
 use Rattle.rules.specs.Cutting.{Pairs, Uncrossed, Region, Tree, leaf, link, tree, pieces, told, one}
 use Rattle.rules.specs.Centre.{Lowest, Layout}
 use Rattle.rules.specs.Plan.{Plan, stars, ValidBy, FirstBy, Cuttable}
-use Rattle.rules.proofs.Trees.{Node, range_node, total}
+use Rattle.rules.specs.Trees.{Node, range_node}
+use Rattle.rules.proofs.Trees.{total}
 use Rattle.rules.proofs.Regions.{pieces_regions}
-use Rattle.rules.proofs.Uses.{uses}
-use Rattle.rules.proofs.Valid.{same_set, uses_tree}
-use Rattle.rules.proofs.Agree.{Agree, stars_agree, valid_same, first_same, layout_same}
-use Rattle.rules.proofs.Lays.{Says, has_centre, has_centre_lem, lays, lays_layout}
+use Rattle.rules.specs.Uses.{uses}
+use Rattle.rules.specs.Valid.{same_set}
+use Rattle.rules.proofs.Valid.{uses_tree}
+use Rattle.rules.specs.Agree.{Agree, stars_agree}
+use Rattle.rules.proofs.Agree.{valid_same, first_same, layout_same}
+use Rattle.rules.specs.Lays.{Says, has_centre, has_centre_lem, lays}
+use Rattle.rules.proofs.Lays.{lays_layout}
 use Rattle.rules.proofs.Listing.{listing, listing_all}
 use Rattle.rules.proofs.Pick.{lightest, pick}
 use Rattle.rules.proofs.Computed.{none_listed, listed_cutting, pick_first}

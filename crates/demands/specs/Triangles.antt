@@ -16,7 +16,7 @@ use Rattle.rules.specs.Cutting.{Pairs, Inner, Region, Valid, pieces, weight, one
 use Rattle.rules.specs.Centre.{HasCentre, Lowest, Layout}
 use Rattle.rules.specs.Plan.{FirstBy}
 use Rattle.rules.specs.Result.{Result}
-use Rattle.rules.proofs.Valid.{same_pieces}
+use Rattle.rules.specs.Valid.{same_pieces}
 use Rattle.desk.specs.Answer.{InBoth, Cut, plan, FirstCutting, Answers}
 use Rattle.desk.specs.Unique.{answer_unique}
 use Rattle.demands.specs.Program.{cutting, Gives}

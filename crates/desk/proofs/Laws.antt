@@ -24,7 +24,8 @@ use Rattle.rules.specs.Cutting.{Inner}
 use Rattle.rules.specs.Cells as cells
 use Rattle.rules.specs.Refusals.{line, FirstFailed, Hold, longer, put_in, passed}
 use Rattle.rules.specs.Result.{Result}
-use Rattle.rules.proofs.Agree.{Agree, stars_agree, cuttable_same, given_same}
+use Rattle.rules.specs.Agree.{Agree, stars_agree}
+use Rattle.rules.proofs.Agree.{cuttable_same, given_same}
 use Rattle.cutting.specs.Answer as cutting
 use Rattle.cutting.specs.Answer.{MayCut}
 use Rattle.desk.specs.Answer.{InBoth, Cut, plan, of_cutting, asked, Answers, result_of}

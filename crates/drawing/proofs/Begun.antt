@@ -16,7 +16,7 @@ use Rattle.outline.specs.Drawing.{Sound, turn_of, corner, corners, after, EndsAt
 use Rattle.outline.specs.Spell.{A, B, C, O, I, env4, TurnE}
 use Rattle.outline.specs.Placed.{On, on_turn}
 use Rattle.outline.specs.Seeing.{beside_back}
-use Rattle.outline.proofs.Begins.{Joins, Begins}
+use Rattle.outline.specs.Begins.{Joins, Begins}
 use Rattle.drawing.specs.Known.{side_turn, Along}
 use Rattle.drawing.specs.Table.{Grows, Begun, SideBegun, Early}
 use Rattle.drawing.specs.Grazing.{first_between, other_between, far_first}

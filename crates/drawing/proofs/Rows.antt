@@ -14,7 +14,8 @@ use Rattle.outline.specs.Drawing.{Sound, corners, Angle, Beside}
 use Rattle.outline.specs.InOrOn.{CentreSees}
 use Rattle.outline.specs.Seeing.{beside_back, beside_or}
 use Rattle.outline.specs.CentreSight.{centre_mutual}
-use Rattle.outline.proofs.Begins.{Begins, inside_or_along}
+use Rattle.outline.specs.Begins.{Begins}
+use Rattle.outline.proofs.Begins.{inside_or_along}
 use Rattle.drawing.specs.Table.{Early, RowsDone, Grows, Decided}
 use Rattle.drawing.specs.Known.{FacedBy}
 use Rattle.drawing.proofs.Growing.{grows_on, grows_in, grows_as}

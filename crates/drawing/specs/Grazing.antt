@@ -20,7 +20,7 @@ use Rattle.outline.proofs.CentreMiddle.{sees_clear}
 use Rattle.outline.specs.Way.{GrazedBy}
 use Rattle.outline.proofs.Third.{first_shorter}
 use Rattle.outline.specs.Barred.{off_side, apart_of}
-use Rattle.outline.proofs.FreeSight.{Meets, how_met, away}
+use Rattle.outline.specs.FreeSight.{Meets, how_met, away}
 use Rattle.drawing.specs.Known.{LiesOn, Along, MeetsSide, TouchedSide}
 use Rattle.drawing.specs.Looking.{open_ends}
 use Rattle.drawing.specs.declared.segment.Met.TheVariants as is

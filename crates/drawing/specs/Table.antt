@@ -9,7 +9,7 @@ use Rattle.outline.specs.Drawing.{corners, after, Beside, Sees}
 use Rattle.outline.specs.InOrOn.{CentreSees}
 use Rattle.outline.specs.Tells.{Tells}
 use Rattle.outline.specs.Way.{GrazedBy}
-use Rattle.outline.proofs.Begins.{Begins}
+use Rattle.outline.specs.Begins.{Begins}
 use Rattle.drawing.specs.Sight.{Cell}
 use Rattle.drawing.specs.Known.{LiesOn}
 

@@ -13,16 +13,19 @@ use Rattle.outline.specs.InOrOn.{CentreSees}
 use Rattle.outline.specs.Segments.{turned_first, turned_second}
 use Rattle.outline.specs.Seeing.{sees_mutual, beside_or}
 use Rattle.outline.specs.Placed.{On}
-use Rattle.outline.proofs.CornersApart.{corners_apart}
-use Rattle.outline.proofs.CentreParts.{sees_parts, part_on}
+use Rattle.outline.specs.CornersApart.{corners_apart}
+use Rattle.outline.specs.CentreParts.{part_on}
+use Rattle.outline.proofs.CentreParts.{sees_parts}
 use Rattle.outline.proofs.CentreMiddle.{sees_clear}
 use Rattle.outline.specs.Directions.{in_line_back}
 use Rattle.outline.specs.CentreSight.{centre_mutual}
 use Rattle.outline.specs.Way.{GrazedBy, Free, free_of}
 use Rattle.outline.proofs.TwoKinds.{free_kinds}
-use Rattle.outline.proofs.Third.{long, second_shorter}
+use Rattle.outline.specs.Third.{long}
+use Rattle.outline.proofs.Third.{second_shorter}
 use Rattle.outline.specs.Straight.{near_straight, far_straight}
-use Rattle.outline.proofs.Across.{Beyond, centre_across}
+use Rattle.outline.specs.Across.{Beyond}
+use Rattle.outline.proofs.Across.{centre_across}
 use Rattle.rules.specs.Lists.{In}
 use Rattle.rules.specs.Cutting.{Pairs}
 use Rattle.marks.specs.Joined.{Next, Ends, next_neighbours, ends_outside}

@@ -14,7 +14,7 @@ use Rattle.outline.specs.Segments.{turned_first}
 use Rattle.outline.specs.Unbroken.{none_between}
 use Rattle.outline.specs.Placed.{on_turn, on_start, touch_meets, on_segment}
 use Rattle.outline.specs.Along.{apart_length}
-use Rattle.outline.proofs.CornersApart.{corners_apart}
+use Rattle.outline.specs.CornersApart.{corners_apart}
 use Rattle.outline.proofs.CentreParts.{sees_parts}
 use Rattle.outline.specs.CentreSight.{centre_mutual}
 use Rattle.outline.specs.Way.{GrazedBy}

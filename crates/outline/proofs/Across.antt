@@ -1,11 +1,5 @@
--- A centre's line across a line of strict sight: where the corners of both take turns round a sound drawing, the two
--- segments share a point. A centre's line may touch corners on its way; these part it into lines of strict sight.
---
---            j         i sees j as a centre, past k; x sees y strictly; i is one of the corners between x and y, and j
---       x ---|--- y    is none. Of the parts ik and kj, one has its ends on both sides of xy.
---            k
---            i
-use Rattle.std.specs.Prelude.{◌≡◌, ◌⊎◌, List, ℕ, zero, suc, ◌<◌, ℤ}
+-- The theorems of `Across`: its definitions and first laws are in specs/.
+use Rattle.std.specs.Prelude.{◌≡◌, List, ℕ, zero, suc, ◌<◌, ℤ}
 use Rattle.std.proofs.Common.{subst, inl, inr, arith}
 use Rattle.std.proofs.Math.Logic.{by_cases}
 use Rattle.std.proofs.Math.Decide.{ℕ_discrete, dec_lt}
@@ -19,13 +13,11 @@ use Rattle.outline.proofs.CentreParts.{sees_parts}
 use Rattle.outline.proofs.CentreMiddle.{sees_clear}
 use Rattle.outline.specs.Way.{GrazedBy, Free, free_of}
 use Rattle.outline.proofs.TwoKinds.{free_kinds}
-use Rattle.outline.proofs.Third.{long, first_shorter, second_shorter}
+use Rattle.outline.specs.Third.{long}
+use Rattle.outline.proofs.Third.{first_shorter, second_shorter}
 use Rattle.outline.specs.Squeezed.{part_shared, first_shared}
 use Rattle.outline.proofs.Interleaved.{interleaved_meet}
-
--- ---- k is none of the corners from x to y
-abbrev pub Beyond : ℕ → ℕ → ℕ → Type 0
-Beyond x y k = (k < x) ⊎ (y < k)
+use Rattle.outline.specs.Across.{Beyond}
 
 module _ (d : List ℤ) (sound : Sound d) (x y : ℕ) (xy : x < y) (hy : y < corners d) (strict : Sees d x y) where
   abbrev Meet : ℕ → ℕ → Type 0

@@ -1,54 +1,27 @@
--- What the angle at a corner leaves of a centre's sight, on a sound drawing: a corner that is seen lies inside the
--- angle, or the line of sight begins with one of the two sides there.
---
---              j       i sees j along its side to m: m is a third
---            /         corner on the segment, and whether i sees j
---          m           is whether m does
---        /
---      i ------
-use Rattle.std.specs.Prelude.{◌≡◌, refl, not, ◌⊎◌, List, [], ◌∷◌, ℕ, ◌<◌, ℤ, pos, ◌+ℤ◌, ◌-ℤ◌, ◌*ℤ◌}
+-- The theorems of `Begins`: its definitions and first laws are in specs/.
+use Rattle.std.specs.Prelude.{◌≡◌, refl, not, ◌⊎◌, List, ℕ, ◌<◌, ℤ}
 use Rattle.std.proofs.Common.{sym, ◌∙◌, ap, subst, inl, inr}
 use Rattle.std.proofs.lemmas.Bool.{false≢true}
-use Rattle.whole.specs.Ring.{v, ◌:+◌, ◌:-◌, ◌:*◌, ring}
-use Rattle.whole.specs.Order.{Positive, nonneg_pos, positive_nonneg, sub_le}
-use Rattle.outline.specs.Drawing.{Point, Sound, Simple, corner, corners, after, prev, EndsAt, Angle, Beside}
-use Rattle.outline.specs.InOrOn.{Spot, OnSegment, CentreSees}
+use Rattle.whole.specs.Order.{Positive}
+use Rattle.outline.specs.Drawing.{Sound, corner, corners, after, prev, EndsAt, Angle, Beside}
+use Rattle.outline.specs.InOrOn.{Spot, CentreSees}
 use Rattle.outline.specs.Tells.{decided}
 use Rattle.outline.specs.Ends.{OnlyEnd}
-use Rattle.outline.specs.Spell.{I}
 use Rattle.outline.specs.Round.{prev_below, next_prev}
 use Rattle.outline.specs.Placed.{On, on_turn}
 use Rattle.outline.specs.OnTest.{on_tells}
 use Rattle.outline.specs.Parity.{odd, large, InOn}
 use Rattle.outline.specs.Near.{near}
-use Rattle.outline.proofs.Reading.{round, in_read}
+use Rattle.outline.specs.Reading.{round}
+use Rattle.outline.proofs.Reading.{in_read}
 use Rattle.outline.specs.Ray.{above_one}
-use Rattle.outline.proofs.CornersApart.{corners_apart}
+use Rattle.outline.specs.CornersApart.{corners_apart}
 use Rattle.outline.specs.Barred.{off_side}
-use Rattle.outline.proofs.FreeSight.{away}
+use Rattle.outline.specs.FreeSight.{away}
 use Rattle.outline.specs.CornerTells.{Verdict, within, without, Close}
-use Rattle.outline.proofs.AtCorner.{left_of, at_corner}
-use Rattle.outline.proofs.LeftIn.{left_in}
-
--- ---- a point close to i on the way to j, as 01 says it
-near_spot : (i j : Point) (K : ℤ) → Positive K → Spot
-near_spot i j K K+ = record { x = (near i K j).x; y = (near i K j).y; r = K; r_above = K+ }
-
-on_near : (i j : Point) (K : ℤ) (K+ : Positive K) → Positive (K -ℤ pos 1) → OnSegment (near_spot i j K K+) i j
-unfolding near_spot
-on_near i j K K+ big = record {
-  p = pos 1;
-  q = K;
-  q_above = K+;
-  p_from = nonneg_pos 1;
-  p_to = sub_le (positive_nonneg big);
-  on_x = axis i.x j.x;
-  on_y = axis i.y j.y;
-}
-  where
-    axis : (i j : ℤ) → K *ℤ (K *ℤ i +ℤ pos 1 *ℤ (j -ℤ i)) ≡ K *ℤ (K *ℤ i +ℤ (j -ℤ i))
-    axis i j =
-        ring (K ∷ i ∷ j ∷ []) (v 0 :* (v 0 :* v 1 :+ I :* (v 2 :- v 1))) (v 0 :* (v 0 :* v 1 :+ (v 2 :- v 1))) refl
+use Rattle.outline.specs.AtCorner.{left_of, at_corner}
+use Rattle.outline.specs.LeftIn.{left_in}
+use Rattle.outline.specs.Begins.{Begins, near_spot, on_near}
 
 -- ---- along neither side at i: close to i one is in the drawing exactly inside the angle
 seen_inside : (d : List ℤ) (sound : Sound d) (i j : ℕ) → i < corners d → ¬ (corner d i ≡ corner d j) →
@@ -74,19 +47,6 @@ seen_inside d sound i j hi apart off_after off_before s =
         at (within a e) h = a
         at (without a e) (inl h) = absurd (c.on_no_side h)
         at (without a e) (inr h) = absurd (false≢true (sym (e ∙ ap not (left_in d sound)) ∙ h))
-
--- ---- lines of sight that begin with a side
--- side k joins the corners i and m
-abbrev pub Joins : List ℤ → ℕ → ℕ → ℕ → Type 0
-Joins d k i m = ((k ≡ i) × (after d k ≡ m)) ⊎ ((k ≡ m) × (after d k ≡ i))
-
--- a side at i has its other end on the segment ij
-pub record Begins (d : List ℤ) (i j : ℕ) : Type 0 where
-  pub side : ℕ
-  pub end : ℕ
-  pub below : side < corners d
-  pub joins : Joins d side i end
-  pub on : On (corner d end) (corner d i) (corner d j)
 
 module _ (d : List ℤ) (sound : Sound d) (i j : ℕ) (hi : i < corners d) (hj : j < corners d)
     (apart : ¬ Beside d i j) where

@@ -10,8 +10,9 @@ use Rattle.outline.specs.InOrOn.{InOrOn, CentreSees}
 use Rattle.outline.specs.Spell.{O, I, At, Two}
 use Rattle.outline.specs.Placed.{On}
 use Rattle.outline.specs.Crossing.{Crosses}
-use Rattle.outline.proofs.CornersApart.{corners_apart}
-use Rattle.outline.proofs.CentreTest.{half, test_enough, test_needed}
+use Rattle.outline.specs.CornersApart.{corners_apart}
+use Rattle.outline.specs.CentreTest.{half}
+use Rattle.outline.proofs.CentreTest.{test_enough, test_needed}
 
 module _ (d : List ℤ) (simple : Simple d) (i j : ℕ) (hi : i < corners d) (hj : j < corners d) (ne : ¬ (i ≡ j)) where
   -- half way from a corner to itself, on the side that begins there

@@ -1,44 +1,21 @@
--- The finite test of `CentreTest` as a truth value that antt computes, and that on a simple drawing it tells a
--- centre's sight.
-use Rattle.std.specs.Prelude.{◌≡◌, refl, Bool, true, false, not, ◌&&◌, ◌||◌, List, ℕ, ◌<◌, eqb, ℤ, pos, neg_ℤ}
+-- The theorems of `CentreMirror`: its definitions and first laws are in specs/.
+use Rattle.std.specs.Prelude.{Bool, true, false, not, ◌||◌, List, ℕ, ◌<◌, eqb, ℤ, pos}
 use Rattle.std.proofs.Common.{subst}
-use Rattle.std.proofs.lemmas.Bool.{false≢true}
-use Rattle.std.specs.Int.Signed.{lt_z}
-use Rattle.outline.specs.Drawing.{Point, turn_of, Simple, corner, corners, after}
+use Rattle.outline.specs.Drawing.{Point, Simple, corner, corners, after}
 use Rattle.outline.specs.InOrOn.{InOrOn, CentreSees}
-use Rattle.outline.specs.Tells.{Tells, as_well, surely, never, and_tells, or_tells, not_tells, case_tells}
+use Rattle.outline.specs.Tells.{Tells, as_well, surely, or_tells, not_tells, case_tells}
 use Rattle.outline.specs.Tells.{then_tells, eq_tells, all_below, all_tells}
-use Rattle.outline.specs.Tests.{lt_tells, share_test, share_tells}
 use Rattle.outline.specs.Placed.{On}
 use Rattle.outline.specs.Parity.{odd, large}
 use Rattle.outline.specs.OnTest.{on_test, on_tells, side_test, side_tells}
-use Rattle.outline.specs.Crossing.{Crosses}
 use Rattle.outline.specs.EveryPoint.{sum2}
-use Rattle.outline.proofs.Reading.{round, in_read, in_said}
-use Rattle.outline.proofs.CornersApart.{corners_apart}
-use Rattle.outline.proofs.CentreTest.{half, test_enough, test_needed}
+use Rattle.outline.specs.Reading.{round}
+use Rattle.outline.proofs.Reading.{in_read, in_said}
+use Rattle.outline.specs.CornersApart.{corners_apart}
+use Rattle.outline.specs.CentreTest.{half}
+use Rattle.outline.proofs.CentreTest.{test_enough, test_needed}
 use Rattle.outline.specs.CentreSight.{centre_self}
-
--- ---- the side ab crosses the segment ij
-abbrev opposite_test : ℤ → ℤ → Bool
-opposite_test s t = (lt_z (pos 0) s && lt_z (pos 0) (neg_ℤ t)) || (lt_z (pos 0) (neg_ℤ s) && lt_z (pos 0) t)
-
-abbrev crosses_test : Point → Point → Point → Point → Bool
-crosses_test i j a b =
-    elim (opposite_test (turn_of i j a) (turn_of i j b)) as (λ x. Bool) [ true ↦ share_test i j a b | false ↦ false ]
-
-crosses_tells : (i j a b : Point) → Tells (crosses_test i j a b) (Crosses i j a b)
-crosses_tells i j a b =
-    as_well
-    (then_tells
-    (or_tells (and_tells (lt_tells _ _) (lt_tells _ _)) (and_tells (lt_tells _ _) (lt_tells _ _)))
-    (share_tells i j a b))
-    (λ h. record { ends = h.0; meets = h.1 }) (λ x. (x.ends, x.meets))
-
--- a value tells that it is true
-true_tells : (b : Bool) → Tells b (b ≡ true)
-true_tells true = surely refl
-true_tells false = never false≢true
+use Rattle.outline.specs.CentreMirror.{crosses_tells, crosses_test, true_tells}
 
 module _ (d : List ℤ) where
   -- ---- half way between a and b, in or on: in a drawing twice as large

@@ -1,25 +1,17 @@
--- What the test of `CentreMirror` computes of 01's outlines.
+-- The theorems of `CentreOutlines`: its definitions and first laws are in specs/.
 use Rattle.std.specs.Prelude.{Bool, true, false, not, ◌&&◌, List, ℕ, ◌<◌, T, ℤ}
 use Rattle.std.proofs.Common.{arith}
-use Rattle.outline.specs.Drawing.{Simple, corners}
+use Rattle.outline.specs.Drawing.{corners}
 use Rattle.outline.specs.InOrOn.{CentreSees}
 use Rattle.outline.specs.Tells.{passed, failed, all_below, all_tells}
-use Rattle.outline.specs.Mirror.{simple_tells, sees_test}
+use Rattle.outline.specs.Mirror.{sees_test}
 use Rattle.outline.proofs.CentreMirror.{centre_test, centre_tells}
 use Rattle.outline.specs.Outlines.{S, D, E, Z, H, straight}
-
--- ---- 02, K3, has the last outline of 01's list as one piece: every corner sees every corner as a centre, along the
--- sides and across
-straight_simple : Simple straight
-straight_simple = passed (simple_tells straight) tt
+use Rattle.outline.specs.CentreOutlines.{straight_simple, z_simple}
 
 pub straight_all : (i j : ℕ) → i < 8 → j < 8 → CentreSees straight i j
 straight_all i j hi hj =
     passed (all_tells 8 (λ k hk. all_tells 8 (λ l hl. centre_tells straight straight_simple k l hk hl))) tt i hi j hj
-
--- ---- in Z a centre sees what 01's sight sees: "0 sees 3 and not 4; 1 does not see 3"
-z_simple : Simple Z
-z_simple = passed (simple_tells Z) tt
 
 pub z_0_sees_3 : CentreSees Z 0 3
 z_0_sees_3 = passed (centre_tells Z z_simple 0 3 (omega arith) (omega arith)) tt

@@ -1,14 +1,9 @@
--- The finite test for a centre's sight of corner j from corner i: no side crosses the segment at an inner point of the
--- side, and half way between any two corners on the segment one is in or on. On a simple drawing it equals the
--- definition, which speaks of every point.
---
---             |                   half way between i and k, and between k and j
---      i -----k-------- j         and the side that ends at k does not cross
-use Rattle.std.specs.Prelude.{◌≡◌, ◌↔◌, List, ℕ, ◌<◌, ℤ, pos, ◌+ℤ◌}
+-- The theorems of `CentreTest`: its definitions and first laws are in specs/.
+use Rattle.std.specs.Prelude.{◌≡◌, ◌↔◌, List, ℕ, ◌<◌, ℤ, pos}
 use Rattle.std.proofs.Common.{sym, subst}
-use Rattle.whole.specs.Order.{Positive, positive_pos}
+use Rattle.whole.specs.Order.{Positive}
 use Rattle.outline.specs.Drawing.{Point, Simple, corner, corners, after}
-use Rattle.outline.specs.InOrOn.{Spot, InOrOn, CentreSees}
+use Rattle.outline.specs.InOrOn.{CentreSees}
 use Rattle.outline.specs.Placed.{On}
 use Rattle.outline.specs.Along.{len2, apart_length}
 use Rattle.outline.specs.Parity.{Holds}
@@ -16,17 +11,10 @@ use Rattle.outline.specs.Crossing.{Crosses}
 use Rattle.outline.specs.EveryPoint.{Sight, Test, sum2}
 use Rattle.outline.specs.TestEnough.{test_sight}
 use Rattle.outline.specs.TestNeeded.{sight_test}
-use Rattle.outline.proofs.Reading.{round, round_inner, round_closed, in_read, in_said, sight_read, sight_said}
-use Rattle.outline.proofs.CornersApart.{simple_read, corners_apart}
-
--- the point half way between two corners
-abbrev pub half : Point → Point → Spot
-half a b = record { x = a.x +ℤ b.x; y = a.y +ℤ b.y; r = pos 2; r_above = positive_pos 1 }
-
-pub record FiniteTest (d : List ℤ) (i j : ℕ) : Type 0 where
-  pub clear : (k : ℕ) → k < corners d → ¬ Crosses (corner d i) (corner d j) (corner d k) (corner d (after d k))
-  pub halves : (k l : ℕ) → k < corners d → l < corners d → On (corner d k) (corner d i) (corner d j) →
-      On (corner d l) (corner d i) (corner d j) → InOrOn d (half (corner d k) (corner d l))
+use Rattle.outline.specs.Reading.{round, round_inner, round_closed}
+use Rattle.outline.proofs.Reading.{in_read, in_said, sight_read, sight_said}
+use Rattle.outline.specs.CornersApart.{simple_read, corners_apart}
+use Rattle.outline.specs.CentreTest.{FiniteTest, half}
 
 -- ---- the closed function has the drawing's corners
 module _ (d : List ℤ) where

@@ -1,6 +1,5 @@
--- Two corners i and j of a simple drawing with nothing between them: half way the parity is what it is close to i, so
--- it tells whether j lies inside the angle at i, once one knows the value left of the sides.
-use Rattle.std.specs.Prelude.{◌≡◌, refl, Bool, true, List, ℕ, suc, ◌<◌, ℤ, pos, ◌-ℤ◌}
+-- The theorems of `HalfWay`: its definitions and first laws are in specs/.
+use Rattle.std.specs.Prelude.{◌≡◌, refl, true, List, ℕ, suc, ◌<◌, ℤ, pos, ◌-ℤ◌}
 use Rattle.std.proofs.Common.{subst, inl, inr}
 use Rattle.std.proofs.Math.Decide.{ℕ_discrete}
 use Rattle.whole.specs.Ring.{◌:-◌, ◌:*◌, neg, ring2}
@@ -17,21 +16,19 @@ use Rattle.outline.specs.Placed.{touch_meets}
 use Rattle.outline.specs.Parity.{odd, out, large, InOn}
 use Rattle.outline.specs.EveryPoint.{sum2}
 use Rattle.outline.specs.Near.{near}
-use Rattle.outline.proofs.Reading.{round, round_inner, round_closed, in_read, in_said}
-use Rattle.outline.proofs.CentreTest.{half}
+use Rattle.outline.specs.Reading.{round, round_inner, round_closed}
+use Rattle.outline.proofs.Reading.{in_read, in_said}
+use Rattle.outline.specs.CentreTest.{half}
 use Rattle.outline.specs.Along.{apart_length}
-use Rattle.outline.proofs.CornersApart.{corners_apart}
+use Rattle.outline.specs.CornersApart.{corners_apart}
 use Rattle.outline.specs.Compare.{plus_off}
 use Rattle.outline.specs.Inner.{inner_half, inner_near}
 use Rattle.outline.specs.Met.{Met, met}
-use Rattle.outline.specs.Value.{half_value, steady_value, clear_steady}
+use Rattle.outline.specs.Value.{steady_value, clear_steady}
 use Rattle.outline.specs.Ray.{above_one}
 use Rattle.outline.specs.CornerTells.{Verdict}
-use Rattle.outline.proofs.AtCorner.{left_of, at_corner}
-
--- the parity half way between corners i and j
-abbrev pub mid : List ℤ → ℕ → ℕ → Bool
-mid d i j = half_value (round d) (corners d) (corner d i) (corner d j)
+use Rattle.outline.specs.AtCorner.{left_of, at_corner}
+use Rattle.outline.specs.HalfWay.{mid}
 
 -- ---- a point strictly between the ends of ab is at neither
 module _ (a b : Point) (p r : ℤ) (long : Positive (Dot a b b)) where

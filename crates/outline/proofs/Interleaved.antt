@@ -17,13 +17,13 @@ use Rattle.outline.specs.Round.{next_inner, next_last}
 use Rattle.outline.specs.Seeing.{clear_sight, clear_passes}
 use Rattle.outline.specs.Parity.{odd}
 use Rattle.outline.specs.Along.{apart_length}
-use Rattle.outline.proofs.CornersApart.{corners_apart}
+use Rattle.outline.specs.CornersApart.{corners_apart}
 use Rattle.outline.specs.CornerTells.{Verdict, within, without}
 use Rattle.outline.proofs.HalfWay.{off_after, off_before}
-use Rattle.outline.proofs.Past.{Past, only_start}
-use Rattle.outline.proofs.Chord.{Chord, chain, on_chain, after_is, side_of, at_next, left_of, one_left}
-use Rattle.outline.proofs.Outlook.{value_at}
-use Rattle.outline.proofs.Leaving.{along_sides, leaves}
+use Rattle.outline.specs.Past.{Past, only_start}
+use Rattle.outline.specs.Chord.{Chord, chain, on_chain, after_is, side_of, at_next, left_of, one_left}
+use Rattle.outline.specs.Outlook.{value_at}
+use Rattle.outline.specs.Leaving.{along_sides, leaves}
 
 module _ {d : List ℤ} {a m : ℕ} (chord : Chord d a m) where
   abbrev b : ℕ

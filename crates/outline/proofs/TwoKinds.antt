@@ -1,31 +1,22 @@
--- The two kinds of sight on a sound drawing: strict sight brings a centre's sight (`strict_centre`); and where nothing
--- stands between two corners, no side across and no third corner on the segment, the two kinds are one (`free_kinds`).
-use Rattle.std.specs.Prelude.{◌≡◌, Bool, true, ◌⊎◌, ◌↔◌, List, ℕ, ◌<◌, ℤ, pos}
-use Rattle.std.proofs.Common.{sym, ◌∙◌, ap, ap₂, subst, inl, inr}
-use Rattle.std.proofs.lemmas.Bool.{false≢true}
+-- The theorems of `TwoKinds`: its definitions and first laws are in specs/.
+use Rattle.std.specs.Prelude.{◌≡◌, true, ◌⊎◌, ◌↔◌, List, ℕ, ◌<◌, ℤ, pos}
+use Rattle.std.proofs.Common.{ap, ap₂, subst, inl, inr}
 use Rattle.std.proofs.Math.IntN.{+ℤ_comm}
 use Rattle.outline.specs.Drawing.{Sound, corner, corners, Angle, Beside, Sees}
 use Rattle.outline.specs.InOrOn.{CentreSees}
 use Rattle.outline.specs.Seeing.{Passes, passes_back, beside_back, beside_or}
 use Rattle.outline.specs.Parity.{pt, odd, large}
-use Rattle.outline.proofs.Reading.{round}
+use Rattle.outline.specs.Reading.{round}
 use Rattle.outline.proofs.CentreMiddle.{middle_enough, sees_middle}
 use Rattle.outline.specs.CentreSight.{centre_beside}
 use Rattle.outline.specs.Way.{Free, free_of}
 use Rattle.outline.specs.Barred.{crossed_unseen, grazed_unseen}
-use Rattle.outline.proofs.FreeSight.{free_passes, free_sight}
-use Rattle.outline.specs.CornerTells.{Verdict, within, without}
-use Rattle.outline.proofs.HalfWay.{mid, angle_mid, mid_in, in_mid}
-use Rattle.outline.proofs.LeftIn.{left_in}
-
--- what a verdict says, where the value inside is true
-holds : {A : Type 0} {o : Bool} → Verdict true A o → o ≡ true → A
-holds (within a e) h = a
-holds (without n e) h = absurd (false≢true (sym e ∙ h))
-
-shows : {A : Type 0} {o : Bool} → Verdict true A o → A → o ≡ true
-shows (within a e) b = e
-shows (without n e) b = absurd (n b)
+use Rattle.outline.specs.FreeSight.{free_passes, free_sight}
+use Rattle.outline.specs.CornerTells.{Verdict}
+use Rattle.outline.specs.HalfWay.{mid}
+use Rattle.outline.proofs.HalfWay.{angle_mid, mid_in, in_mid}
+use Rattle.outline.specs.LeftIn.{left_in}
+use Rattle.outline.specs.TwoKinds.{holds, shows}
 
 module _ (d : List ℤ) (sound : Sound d) where
   -- ---- nothing between i and j: half way tells both angles, and a centre's sight

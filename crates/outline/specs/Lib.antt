@@ -78,8 +78,16 @@ pub mod OneIsOut
 pub mod SharedPoint
 pub mod CrossingPoint
 pub mod TestNeeded
+-- the definitions read so, for a drawing's own corners
+pub mod Reading
+pub mod CornersApart
+pub mod CentreTest
 -- what needs no test; a corner on the segment; the middle alone
 pub mod CentreSight
+pub mod CentreParts
+-- the test that antt computes, and what it says of 01's outlines
+pub mod CentreMirror
+pub mod CentreOutlines
 -- ---- the inside lies left of every side
 -- numbers with one sign, sums of truth values; directions from one point, points between the ends of a side
 pub mod Compare
@@ -111,8 +119,25 @@ pub mod AreaByRows
 -- what a look finds; a side across or a third corner bars strict sight; free of both, it is the two angles
 pub mod Way
 pub mod Barred
+pub mod FreeSight
+-- the corners of a drawing, half way between two of them, and the inside
+pub mod AtCorner
+pub mod HalfWay
+pub mod LeftIn
+-- strict sight brings a centre's, and where nothing stands between they are one
+pub mod TwoKinds
+-- what the angle leaves of a centre's sight: a line that begins with a side; a third corner parts it
+pub mod Begins
+pub mod Third
 -- ---- lines across lines
 -- a point of a segment, and what its parts share with another
 pub mod Squeezed
 pub mod Straight
+-- the corners on one side of a line of strict sight are an outline of their own; those on the other side are outside
+pub mod Past
 pub mod Parted
+pub mod Chord
+pub mod Outlook
+pub mod Leaving
+-- so two lines whose corners take turns round the drawing meet: both of strict sight, or one of them a centre's
+pub mod Across

@@ -1,7 +1,7 @@
 -- A point on a segment: the segment turned round. And a pair of whole numbers on it: what other segments share there,
 -- and that a turn and a product tell it.
 use Rattle.std.specs.Prelude.{◌≡◌, refl, [], ◌∷◌, ℤ, pos, ◌-ℤ◌, ◌*ℤ◌, ◌≤ℤ◌, ◌<ℤ◌}
-use Rattle.whole.specs.Ring.{E, v, ◌:+◌, ◌:-◌, ◌:*◌, neg, ring1, ring2, by_ring}
+use Rattle.whole.specs.Ring.{E, v, ◌:-◌, ◌:*◌, neg, ring1, ring2, by_ring}
 use Rattle.whole.specs.Order.{Nonneg, nonneg_pos, positive_nonneg, zero_cancel, diff_zero, le_sub, sub_le}
 use Rattle.outline.specs.Drawing.{Point, turn_of, Shared, SharedOnlyAt}
 use Rattle.outline.specs.InOrOn.{Spot, spot, OnSegment}

@@ -1,7 +1,7 @@
 -- Two segments that have two different points in common: all four ends are on one line, and an end of one segment lies
 -- on the other. Laws over plain points.
 use Rattle.std.specs.Prelude.{◌≡◌, refl, ◌⊎◌, List, [], ◌∷◌, ℤ, ◌+ℤ◌, ◌-ℤ◌, ◌*ℤ◌, ◌≤ℤ◌, ◌<ℤ◌}
-use Rattle.std.proofs.Common.{sym, ◌∙◌, subst, inl, inr}
+use Rattle.std.proofs.Common.{sym, ◌∙◌, inl, inr}
 use Rattle.std.proofs.Math.IntN.{pos}
 use Rattle.whole.specs.Ring.{v, con, ◌:+◌, ◌:-◌, ◌:*◌, neg, ring1, ring2, by_ring}
 use Rattle.whole.specs.Order.{Nonneg, Positive, nonneg_mul, positive_mul, positive_nonneg, zero_cancel, squares_zero}

@@ -3,10 +3,12 @@
 use Rattle.std.specs.Prelude.{◌≡◌, refl, List, ℕ, suc, ◌≤◌, length}
 use Rattle.std.proofs.Common.{inr, arith}
 use Rattle.rules.specs.Cutting.{Pairs, Valid, tree, told, pieces, one, First}
-use Rattle.rules.proofs.Trees.{weight_told, weight_one}
-use Rattle.rules.proofs.Table.{Table, grown, table_best, table_value, table_none}
+use Rattle.rules.specs.Trees.{weight_one}
+use Rattle.rules.proofs.Trees.{weight_told}
+use Rattle.rules.specs.Table.{Table, grown}
+use Rattle.rules.proofs.Table.{table_best, table_value, table_none}
 use Rattle.rules.proofs.Valid.{valid_tree, best_first}
-use Rattle.rules.proofs.Uses.{uses}
+use Rattle.rules.specs.Uses.{uses}
 
 -- for the corners 0 .. m
 module _ {cut : ℕ → ℕ → Type 0} {ok : List ℕ → Type 0} {w : ℕ → ℕ → ℕ}

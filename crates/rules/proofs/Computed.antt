@@ -1,15 +1,15 @@
--- The cuttings of given corners, computed: the listing of the range 0..n-1 has the valid cuttings, and its pick is the
--- answer.
-use Rattle.std.specs.Prelude.{◌≡◌, refl, Bool, true, false, ℕ, suc, ◌≤◌, ◌<◌, T, eqb, length}
+-- The theorems of `Computed`: its definitions and first laws are in specs/.
+use Rattle.std.specs.Prelude.{◌≡◌, refl, Bool, true, false, ℕ, suc, ◌≤◌, ◌<◌, T}
 use mathlib.Core.List.{List, [], ◌∷◌, flat_map}
 use Rattle.std.proofs.Common.{arith}
 use Rattle.rules.specs.Lists.{In}
-use Rattle.rules.specs.Cutting.{Pairs, Tree, leaf, link, Valid, tree, pieces, told, one, First}
-use Rattle.rules.proofs.Trees.{Node}
-use Rattle.rules.proofs.Uses.{uses}
+use Rattle.rules.specs.Cutting.{Pairs, Tree, Valid, tree, pieces, told, one, First}
+use Rattle.rules.specs.Trees.{Node}
+use Rattle.rules.specs.Uses.{uses}
 use Rattle.rules.proofs.Valid.{valid_tree, range_valid, pieces_uses, best_first}
 use Rattle.rules.proofs.Listing.{cut, ok, listing, listing_all, listing_none}
 use Rattle.rules.proofs.Pick.{pick, pick_best}
+use Rattle.rules.specs.Computed.{fan, three?}
 
 module _ (cut? : ℕ → ℕ → Bool) (ok? : List ℕ → Bool) (m : ℕ) where
   -- a valid cutting of m + 1 corners is listed, by its tree
@@ -35,13 +35,6 @@ module _ (cut? : ℕ → ℕ → Bool) (ok? : List ℕ → Bool) (m : ℕ) where
       First (cut cut? ok?) (ok cut? ok?) w (suc m) (uses 0 t) × (pieces (suc m) (uses 0 t) ≡ told 0 t)
   pick_first w lt t e k =
       best_first (cut cut? ok?) (ok cut? ok?) w m t (rw e at (pick_best cut? ok? w 0 m lt (rw e k)))
-
--- ---- tried: five corners, all pairs allowed, pieces of three corners only; and no piece at all
-three? : List ℕ → Bool
-three? S = eqb (length S) 3
-
-fan : Tree
-fan = link 1 leaf (link 4 (link 2 leaf (link 4 (link 3 leaf (link 4 leaf leaf)) leaf)) leaf)
 
 triangles : First (λ a b. Unit {0}) (λ S. T (three? S)) one 5 (uses 0 fan) ×
     (pieces 5 (uses 0 fan) ≡ (0 ∷ 1 ∷ 4 ∷ []) ∷ (1 ∷ 2 ∷ 4 ∷ []) ∷ (2 ∷ 3 ∷ 4 ∷ []) ∷ [])

@@ -1,30 +1,19 @@
--- All allowed trees of a range, listed: every one, each once, in the order of the told runs. `cut?` and `ok?` are
--- Boolean tests here, so that the listing of given corners is computed (by `refl`, under `unfolding flat_map`). A
--- `let` and the branches of `elim` wait: what is not allowed costs one test.
+-- The theorems of `Listing`: its definitions and first laws are in specs/.
 use Rattle.std.specs.Prelude.{◌≡◌, refl, Bool, true, false, ◌&&◌, ℕ, zero, suc, ◌+◌, ◌-◌, ◌≤◌, ◌<◌, T, eqb, ltb, length}
 use Rattle.std.proofs.Common.{ap, subst, inr, arith, eqb→eq, ltb→lt, lt→ltb}
 use mathlib.Core.List.{List, [], ◌∷◌, ◌++◌, flat_map}
 use Rattle.std.specs.Float.Ieee.Fits.{and_i, and_l, and_r, eq→eqb}
 use Rattle.rules.specs.Lists.{In, Distinct, Rise, rise_le}
 use Rattle.rules.specs.Cutting.{Tree, leaf, link, corners, told, flat, Less}
-use Rattle.rules.proofs.Trees.{Fit, Chain, Line, Range, chain_rise, range_line}
-use Rattle.rules.proofs.Trees.{line_range, run_below, run_line, run_line_lem}
-use Rattle.rules.proofs.Order.{less_irrefl, less_append, less_prepend}
-use Rattle.rules.proofs.Sorted.{sorted_distinct, Listed, listed_one, listed_if}
-use Rattle.rules.proofs.Sorted.{listed_as, listed_flat_map, listed_map}
-use Rattle.rules.proofs.Sorted.{rises, From, rises_all}
-
--- ---- the order of the runs on a line from a, and of those below it
-abbrev ByLine : ℕ → Tree → Tree → Type 0
-ByLine a t t' = Less (run_line a t) (run_line a t')
-
-abbrev ByBelow : ℕ → Tree → Tree → Type 0
-ByBelow a t t' = Less (run_below a t) (run_below a t')
-
--- ---- all trees over one piece: its corners from a on, where g a b lists what may stand on the line a b
-abbrev pub ways : (ℕ → ℕ → List Tree) → ℕ → List ℕ → List Tree
-ways g a [] = leaf ∷ []
-ways g a (b ∷ s) = let rest = ways g b s in flat_map (λ u. flat_map (λ r. link b u r ∷ []) rest) (g a b)
+use Rattle.rules.specs.Trees.{Fit, Chain, Line, Range, chain_rise, range_line}
+use Rattle.rules.specs.Trees.{line_range, run_below, run_line}
+use Rattle.rules.proofs.Trees.{run_line_lem}
+use Rattle.rules.specs.Order.{less_irrefl, less_append, less_prepend}
+use Rattle.rules.specs.Sorted.{sorted_distinct, Listed, listed_one, listed_if}
+use Rattle.rules.specs.Sorted.{listed_as, listed_flat_map, listed_map}
+use Rattle.rules.specs.Sorted.{rises, From}
+use Rattle.rules.proofs.Sorted.{rises_all}
+use Rattle.rules.specs.Listing.{ByBelow, ByLine, ways}
 
 module _ (cut? : ℕ → ℕ → Bool) (ok? : List ℕ → Bool) where
   abbrev pub cut : ℕ → ℕ → Type 0

@@ -1,46 +1,25 @@
--- The centres of a line of finished tables: for each centre that sees what it must, its best piece on the line, and
--- what the line's value says of it.
-use Rattle.std.specs.Prelude.{◌≡◌, refl, true, ◌⊎◌, List, ◌∷◌, ◌++◌}
+-- The theorems of `Owns`: its definitions and first laws are in specs/.
+use Rattle.std.specs.Prelude.{◌≡◌, refl, ◌⊎◌, List, ◌∷◌, ◌++◌}
 use Rattle.std.proofs.Math.Path.{sym, ap}
-use Rattle.std.proofs.Common.{subst, ◌∙◌, inl, inr, eqb-true, eq-eqb}
-use Prim.Native.Nat.{ℕ, suc, ◌+◌, ◌-◌, ◌<◌, ◌≤◌, min}
+use Rattle.std.proofs.Common.{subst, ◌∙◌, inl, inr}
+use Prim.Native.Nat.{ℕ, suc, ◌+◌, ◌-◌, ◌<◌, ◌≤◌}
 use native.Mathlib.Omega.{arith}
 use Rattle.std.proofs.Math.Decide.{dec_lt}
 use Rattle.rules.specs.Centre.{Centre}
-use Rattle.rules.proofs.Cheapest.{cheapest_map}
-use Rattle.rules.proofs.Table.{Way, Piece}
-use Rattle.rules.proofs.Roads.{path, BestRoad, step_road, road_reaches}
+use Rattle.rules.specs.Cheapest.{cheapest_map}
+use Rattle.rules.specs.Table.{Way, Piece}
+use Rattle.rules.specs.Roads.{path, road_reaches}
+use Rattle.rules.proofs.Roads.{BestRoad, step_road}
 use Rattle.rules.proofs.Search.{BestPiece, centre_at_end, centre_between}
-use Rattle.rules.proofs.Columns.{pays, costs, Least, LeastOver, Solved}
-use Rattle.rules.proofs.Choice.{sought, step_of, next_of, rest_of, fits}
-use Rattle.rules.proofs.Seek.{sought_from, next_left, next_right}
-use Rattle.rules.proofs.Follow.{step_goes, next_goes, path_next, path_same, path_split}
-use Rattle.rules.proofs.Small as small
-use Rattle.rules.proofs.Small.{min_low, min_hit, lifted, start_at, seen_at, road_first, road_last, through_fits}
-use Rattle.rules.proofs.Ways.{May, Sees, stepping, best_road}
-
--- `left` by the roads themselves
-abbrev pub diag : (ℕ → ℕ → ℕ → ℕ) → ℕ → ℕ → ℕ
-diag road a x = road x a x
-
--- the piece of the centre x is as cheap as the value of the line i j says
-abbrev pub Attains : (ℕ → ℕ → ℕ) → (ℕ → ℕ → ℕ) → (ℕ → ℕ → ℕ → ℕ) → ℕ → ℕ → ℕ → Type 0
-Attains w val road i j x = road x i x + road j x x + w i j ≡ val i j
-
-pub fits_fit : (top : ℕ) (w val : ℕ → ℕ → ℕ) (road : ℕ → ℕ → ℕ → ℕ) (i j x : ℕ) → val i j < top →
-    fits top w val (diag road) (λ y. road j y y) i j x ≡ true → Attains w val road i j x
-unfolding fits
-fits_fit top w val road i j x lt e =
-    let q : min top (min top (road x i x + road j x x) + w i j) ≡ val i j =
-    eqb-true (min top (min top (road x i x + road j x x) + w i j)) (val i j) e in
-    omega (arith, q)
-
-pub fit_fits : (top : ℕ) (w val : ℕ → ℕ → ℕ) (road : ℕ → ℕ → ℕ → ℕ) (i j x : ℕ) → val i j < top →
-    Attains w val road i j x →
-    fits top w val (diag road) (λ y. road j y y) i j x ≡ true
-unfolding fits
-fit_fits top w val road i j x lt e =
-    eq-eqb (min top (min top (road x i x + road j x x) + w i j)) (val i j) (omega arith)
+use Rattle.rules.specs.Columns.{pays, costs, Least, LeastOver, Solved}
+use Rattle.rules.specs.Choice.{sought, step_of, next_of, rest_of}
+use Rattle.rules.specs.Seek.{sought_from, next_left, next_right}
+use Rattle.rules.specs.Follow.{step_goes, next_goes, path_next, path_same, path_split}
+use Rattle.rules.specs.Small as small
+use Rattle.rules.specs.Small.{min_low, min_hit, lifted, start_at, seen_at, road_first, road_last, through_fits}
+use Rattle.rules.specs.Ways.{May, Sees}
+use Rattle.rules.proofs.Ways.{stepping, best_road}
+use Rattle.rules.specs.Owns.{Attains, diag}
 
 module _ {top : ℕ} {w : ℕ → ℕ → ℕ} {cut : ℕ → ℕ → Type 0} {veil val left : ℕ → ℕ → ℕ} {road : ℕ → ℕ → ℕ → ℕ} {n : ℕ}
     (solved : Solved top w cut veil val left road n) {i j : ℕ} (ij : suc i < j) (jn : j < n)

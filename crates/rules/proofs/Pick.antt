@@ -3,9 +3,11 @@ use Rattle.std.specs.Prelude.{◌≡◌, refl, Bool, true, false, ◌⊎◌, Lis
 use Rattle.std.proofs.Common.{sym, ap, subst, inl, inr, arith, ltb→lt, lt→ltb}
 use Rattle.rules.specs.Lists.{In}
 use Rattle.rules.specs.Cutting.{Tree, leaf, told, flat, Less}
-use Rattle.rules.proofs.Trees.{Node, Range, total}
-use Rattle.rules.proofs.Order.{less_trans, Best}
-use Rattle.rules.proofs.Sorted.{Sorted, Listed}
+use Rattle.rules.specs.Trees.{Node, Range}
+use Rattle.rules.proofs.Trees.{total}
+use Rattle.rules.specs.Order.{less_trans}
+use Rattle.rules.proofs.Order.{Best}
+use Rattle.rules.specs.Sorted.{Sorted, Listed}
 use Rattle.rules.proofs.Listing.{listing, listing_all}
 
 module _ (w : ℕ → ℕ → ℕ) (i j : ℕ) where

@@ -1,52 +1,28 @@
--- Of the centres that fit, the one with the first road is taken; so the finished tables have the Bellman property of
--- `rules`.
-use Rattle.std.specs.Prelude.{◌≡◌, Bool, ◌&&◌, ◌||◌, ◌⊎◌, ltb}
+-- The theorems of `Picks`: its definitions and first laws are in specs/.
+use Rattle.std.specs.Prelude.{◌≡◌, Bool, ◌&&◌, ◌||◌, ◌⊎◌}
 use Rattle.std.proofs.Math.Path.{refl, subst, ap}
 use Rattle.std.proofs.Common.{sym, ◌∙◌, inr, ⊎_elim, arith}
 use Rattle.std.proofs.Math.Bool.{true, false}
 use Rattle.std.proofs.Math.Logic.{inl}
-use mathlib.Core.List.{List, [], ◌∷◌}
+use mathlib.Core.List.{List}
 use Prim.Native.Nat.{ℕ, zero, suc, ◌+◌, ◌-◌, ◌<◌, ◌≤◌}
 use Rattle.std.proofs.Math.Decide.{dec_lt}
-use borrow.Author.Tests.{ltb-true, lt-ltb, le-ltb, eqb-true, eqb-false, eq-eqb}
+use borrow.Author.Tests.{lt-ltb, le-ltb, eqb-true, eqb-false}
 use Rattle.std.proofs.Math.Dec.{eqb}
 use Rattle.rules.specs.Lists.{Rise}
 use Rattle.rules.specs.Cutting.{Less}
-use Rattle.rules.proofs.Order.{Upto, less_trans, rise_differ}
+use Rattle.rules.specs.Order.{Upto, less_trans, rise_differ}
 use Rattle.rules.specs.Centre.{Centre, HasCentre}
-use Rattle.rules.proofs.Table.{Way, Piece, Table, Closes, road_rise, sum}
+use Rattle.rules.specs.Table.{Way, Piece, Table, Closes, road_rise, sum}
 use Rattle.rules.proofs.Search.{Serves, Picked, try_best, star_table}
 use Rattle.limits.specs.Limits.{row}
-use Rattle.rules.proofs.Columns.{LeastOver, Solved}
-use Rattle.rules.proofs.Choice.{rest_of, fits, less, better, pick_from, pick_of, choice_of}
-use Rattle.rules.proofs.Small.{best_of, value_at}
-use Rattle.rules.proofs.Ways.{May, Sees}
-use Rattle.rules.proofs.Owns.{diag, Attains, fits_fit, fit_fits, Own, own, piece_sights, fit_sights, some_fits}
-
-never : {A : Type 0} → true ≡ false → A
-never e = let z : ◌≡◌ {A = ℕ} 0 1 = cc in absurd (omega arith)
-
--- ---- the order, computed
-less_Less : (s t : List ℕ) → less s t ≡ true → Less s t
-less_Less [] t e = never (sym e)
-less_Less (a ∷ s) [] e = never (sym e)
-less_Less (a ∷ s) (b ∷ t) e = go (ltb a b) (eqb a b) refl refl e (less_Less s t)
-  where
-    go : (p q : Bool) → ltb a b ≡ p → eqb a b ≡ q → (p || (q && less s t)) ≡ true → (less s t ≡ true → Less s t) →
-        (a < b) ⊎ ((a ≡ b) × Less s t)
-    go true q h k e f = inl (ltb-true a b h)
-    go false true h k e f = inr (eqb-true a b k, f e)
-    go false false h k e f = never (sym e)
-
-Less-less : (s t : List ℕ) → Less s t → less s t ≡ true
-Less-less [] t h = absurd h
-Less-less (a ∷ s) [] h = absurd h
-Less-less (a ∷ s) (b ∷ t) (inl h) = rw (lt-ltb a b h) refl
-Less-less (a ∷ s) (b ∷ t) (inr h) = go (ltb a b) (Less-less s t h.1)
-  where
-    go : (p : Bool) → less s t ≡ true → (p || (eqb a b && less s t)) ≡ true
-    go true e = refl
-    go false e = rw (eq-eqb a b h.0, e) refl
+use Rattle.rules.specs.Columns.{LeastOver, Solved}
+use Rattle.rules.specs.Choice.{rest_of, fits, less, better, pick_from, pick_of, choice_of}
+use Rattle.rules.specs.Small.{best_of, value_at}
+use Rattle.rules.specs.Ways.{May, Sees}
+use Rattle.rules.specs.Owns.{diag, Attains, fits_fit, fit_fits}
+use Rattle.rules.proofs.Owns.{Own, own, piece_sights, fit_sights, some_fits}
+use Rattle.rules.specs.Picks.{Less-less, less_Less, never}
 
 module _ {top : ℕ} {w : ℕ → ℕ → ℕ} {cut : ℕ → ℕ → Type 0} {veil val left : ℕ → ℕ → ℕ} {road : ℕ → ℕ → ℕ → ℕ} {n : ℕ}
     (n64 : n ≤ row) (solved : Solved top w cut veil val left road n) {i j : ℕ} (ij : suc i < j) (jn : j < n)

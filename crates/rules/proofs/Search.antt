@@ -8,11 +8,12 @@
 use Rattle.std.specs.Prelude.{◌≡◌, refl, ◌⊎◌, List, [], ◌∷◌, ◌++◌, ℕ, suc, ◌+◌, ◌≤◌, ◌<◌}
 use Rattle.std.proofs.Common.{sym, subst, inl, inr, arith}
 use Rattle.rules.specs.Lists.{In, rise_in, rise_from}
-use Rattle.rules.proofs.Order.{Upto}
+use Rattle.rules.specs.Order.{Upto}
 use Rattle.rules.specs.Centre.{Centre, HasCentre}
-use Rattle.rules.proofs.Cheapest.{Cheapest, cheapest_when, cheapest_map, upto_trans}
-use Rattle.rules.proofs.Table.{Road, road_rise, Head, sum, Way, Piece, Closes, Table}
-use Rattle.rules.proofs.Roads.{SeenStep, seen_road, road_seen, road_reaches, BestRoad, through}
+use Rattle.rules.specs.Cheapest.{Cheapest, cheapest_when, cheapest_map, upto_trans}
+use Rattle.rules.specs.Table.{Road, road_rise, Head, sum, Way, Piece, Closes, Table}
+use Rattle.rules.specs.Roads.{SeenStep, seen_road, road_seen, road_reaches}
+use Rattle.rules.proofs.Roads.{BestRoad, through}
 
 -- ---- the pieces with one centre
 module _ (cut may : ℕ → ℕ → Type 0) (val : ℕ → ℕ → ℕ) (sees : ℕ → ℕ → Type 0) where

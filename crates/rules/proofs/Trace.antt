@@ -1,51 +1,19 @@
--- A traced set is the cutting of the table's tree, and so the answer.
-use Rattle.std.specs.Prelude.{◌≡◌, refl, Bool, true, false, ◌||◌, ◌⊎◌, ◌↔◌, List, [], ◌∷◌, ℕ, zero, suc, ◌+◌, ◌≤◌, ◌<◌, T, eqb}
+-- The theorems of `Trace`: its definitions and first laws are in specs/.
+use Rattle.std.specs.Prelude.{◌≡◌, refl, ◌||◌, ◌⊎◌, ◌↔◌, List, [], ◌∷◌, ℕ, zero, suc, ◌+◌, ◌≤◌, ◌<◌, T, eqb}
 use Rattle.std.proofs.Common.{sym, ap, subst, ◌∙◌, inl, inr, ⊎_elim, arith, eqb→eq}
 use Rattle.std.proofs.Math.Decide.{dec_lt, ℕ_discrete}
-use Rattle.std.proofs.Math.Dec.{eqb_refl}
-use Rattle.std.proofs.Math.Facts.{and_yes, yes_and, or_yes}
+use Rattle.std.proofs.Math.Facts.{and_yes, or_yes}
 use Rattle.rules.specs.Lists.{rise_le}
-use Rattle.rules.proofs.Cheapest.{cheapest_unique}
+use Rattle.rules.specs.Cheapest.{cheapest_unique}
 use Rattle.rules.specs.Cutting.{Pairs, Tree, leaf, link, First}
-use Rattle.rules.proofs.Trees.{Node, Line}
-use Rattle.rules.proofs.Table.{Road, road_rise, Way, Piece, Closes, Table, walk, grow, grown, lines}
-use Rattle.rules.proofs.Uses.{is_line, uses}
-use Rattle.rules.proofs.Valid.{same_set}
+use Rattle.rules.specs.Trees.{Node, Line}
+use Rattle.rules.specs.Table.{Road, road_rise, Way, Piece, Closes, Table, walk, grow, grown}
+use Rattle.rules.proofs.Table.{lines}
+use Rattle.rules.specs.Uses.{is_line, uses}
+use Rattle.rules.specs.Valid.{same_set}
 use Rattle.rules.proofs.Answer.{table_first}
-use Rattle.rules.proofs.Traced.{LineOfRoad, Whole, Traced, on_within}
-
-or_left : (p q : Bool) → T p → T (p || q)
-or_left true q h = tt
-or_left false q h = absurd h
-
-or_right : (p q : Bool) → T q → T (p || q)
-or_right true q h = tt
-or_right false q h = h
-
--- a tree along a road uses its lines, and what stands under them
-on_uses : (g : ℕ → ℕ → Tree) (a : ℕ) (s : List ℕ) (c d : ℕ) → LineOfRoad a s c d →
-    (Node (g c d) → T (uses a (walk g a s) c d)) × ((p q : ℕ) → T (uses c (g c d) p q) → T (uses a (walk g a s) p q))
-on_uses g a [] c d h = absurd h
-on_uses g a (b ∷ s) c d (inl e) =
-    rw (sym e.0, sym e.1) (
-      λ k. or_left (is_line c d (g c d) c d) (uses c (g c d) c d || uses d (walk g d s) c d) (line (g c d) k),
-      λ p q k. or_right (is_line c d (g c d) p q) (uses c (g c d) p q || uses d (walk g d s) p q)
-          (or_left (uses c (g c d) p q) (uses d (walk g d s) p q) k),
-    )
-  where
-    line : (u : Tree) → Node u → T (is_line c d u c d)
-    line leaf k = absurd k
-    line (link x v r) k = yes_and (eqb c c) (eqb d d) (eqb_refl c) (eqb_refl d)
-on_uses g a (b ∷ s) c d (inr h) =
-    let q = on_uses g b s c d h in (
-      λ k. deep c d (q.0 k),
-      λ x y k. deep x y (q.1 x y k),
-    )
-  where
-    deep : (x y : ℕ) → T (uses b (walk g b s) x y) → T (uses a (walk g a (b ∷ s)) x y)
-    deep x y k =
-        or_right (is_line a b (g a b) x y) (uses a (g a b) x y || uses b (walk g b s) x y)
-        (or_right (uses a (g a b) x y) (uses b (walk g b s) x y) k)
+use Rattle.rules.specs.Traced.{LineOfRoad, Whole, Traced, on_within}
+use Rattle.rules.specs.Trace.{on_uses}
 
 module _ {cut : ℕ → ℕ → Type 0} {ok : List ℕ → Type 0} {w : ℕ → ℕ → ℕ} {may : ℕ → ℕ → Type 0} {val : ℕ → ℕ → ℕ}
     {choice : ℕ → ℕ → List ℕ} {m : ℕ}

@@ -1,37 +1,22 @@
--- Valid cuttings and allowed trees are the same thing; so the order of trees is that of cuttings.
--- Of two different cuttings the told runs differ and one comes first; the lightest that comes first is one and no
--- other.
-use Rattle.std.specs.Prelude.{◌≡◌, refl, Bool, true, false, ◌⊎◌, ◌↔◌, List, ◌∷◌, ℕ, suc, ◌-◌, ◌≤◌, ◌<◌, length, T}
+-- The theorems of `Valid`: its definitions and first laws are in specs/.
+use Rattle.std.specs.Prelude.{◌≡◌, ◌⊎◌, ◌↔◌, List, ◌∷◌, ℕ, suc, ◌-◌, ◌≤◌, T}
 use Rattle.std.proofs.Common.{sym, ◌∙◌, subst, inl, inr, ⊎_elim, arith}
 use Rattle.std.proofs.Math.Path.{ap}
 use Rattle.std.proofs.Math.Logic.{⊎_map}
-use Rattle.rules.specs.Lists.{In, Rising}
-use Rattle.rules.specs.Cutting.{Pairs, Inner, Uncrossed, Region, Valid, Tree, leaf}
+use Rattle.rules.specs.Lists.{In}
+use Rattle.rules.specs.Cutting.{Pairs, Uncrossed, Region, Valid, Tree, leaf}
 use Rattle.rules.specs.Cutting.{link, corners, below, told, tree, pieces}
 use Rattle.rules.specs.Cutting.{flat, run, Less, weight, First}
-use Rattle.rules.proofs.Trees.{Range, total, weight_told}
-use Rattle.rules.proofs.Order.{less_irrefl, upto_antisym, range_differ, Best}
-use Rattle.rules.proofs.Lines.{Piece, top_cases, told_stands, range_wide, stands_in}
+use Rattle.rules.specs.Trees.{Range}
+use Rattle.rules.proofs.Trees.{total, weight_told}
+use Rattle.rules.specs.Order.{less_irrefl, upto_antisym}
+use Rattle.rules.proofs.Order.{range_differ, Best}
+use Rattle.rules.specs.Lines.{Piece, top_cases, told_stands}
+use Rattle.rules.proofs.Lines.{range_wide, stands_in}
 use Rattle.rules.proofs.Regions.{pair_line, line_pair, tree_range, pieces_regions}
-use Rattle.rules.proofs.Uses.{uses, uses_stands, stands_uses, uses_in, uses_uncrossed, tree_uses}
-
--- ---- a set of uncrossed pairs is what its tree uses
-abbrev pub SamePairs : Pairs → Pairs → Type 0
-SamePairs C D = (a b : ℕ) → T (C a b) ↔ T (D a b)
-
--- two sets of the same pairs are one set
-pub same_set : (C D : Pairs) → SamePairs C D → C ≡ D
-same_set C D h i a b = same (C a b) (D a b) (h a b) i
-  where
-    same : (p q : Bool) → T p ↔ T q → p ≡ q
-    same true true e = refl
-    same true false e = absurd (e.0 tt)
-    same false true e = absurd (e.1 tt)
-    same false false e = refl
-
--- and have the same pieces
-pub same_pieces : (n : ℕ) (C D : Pairs) → SamePairs C D → pieces n C ≡ pieces n D
-same_pieces n C D h = ap (pieces n) (same_set C D h)
+use Rattle.rules.specs.Uses.{uses, uses_stands, stands_uses}
+use Rattle.rules.proofs.Uses.{uses_in, uses_uncrossed, tree_uses}
+use Rattle.rules.specs.Valid.{SamePairs}
 
 pub uses_tree : (n : ℕ) (C : Pairs) → 3 ≤ n → Uncrossed n C → SamePairs C (uses 0 (tree n C))
 uses_tree n C le un a b = (used, held)
@@ -146,25 +131,3 @@ module _ (cut : ℕ → ℕ → Type 0) (ok : List ℕ → Type 0) where
         go (inl s) = s
         go (inr (inl l)) = absurd (less_irrefl (run n D) (subst (λ x. Less x (run n D)) e l))
         go (inr (inr l)) = absurd (less_irrefl (run n D) (subst (Less (run n D)) e l))
-
--- ---- rules that allow the same
--- whatever `cut` and `ok` allow of n corners, `cut'` and `ok'` allow
-pub record Allows (n : ℕ) (cut cut' : ℕ → ℕ → Type 0) (ok ok' : List ℕ → Type 0) : Type 0 where
-  pub cuts : (a b : ℕ) → Inner n a b → cut a b → cut' a b
-  pub lists : (S : List ℕ) → Rising S → ((x : ℕ) → In x S → x < n) → 3 ≤ length S → ok S → ok' S
-
-pub valid_map : (n : ℕ) (cut cut' : ℕ → ℕ → Type 0) (ok ok' : List ℕ → Type 0) (C : Pairs) →
-    Allows n cut cut' ok ok' → Valid cut ok n C → Valid cut' ok' n C
-valid_map n cut cut' ok ok' C A va = record {
-  uncrossed = va.uncrossed;
-  cuts = λ a b c. A.cuts a b (va.uncrossed.inner a b c) (va.cuts a b c);
-  allowed = λ S R. A.lists S R.rising R.small R.three (va.allowed S R);
-}
-
-pub first_map : (n : ℕ) (cut cut' : ℕ → ℕ → Type 0) (ok ok' : List ℕ → Type 0) (w : ℕ → ℕ → ℕ) (C : Pairs) →
-    Allows n cut cut' ok ok' → Allows n cut' cut ok' ok → First cut ok w n C → First cut' ok' w n C
-first_map n cut cut' ok ok' w C A A' h = record {
-  valid = valid_map n cut cut' ok ok' C A h.valid;
-  least = λ D va. h.least D (valid_map n cut' cut ok' ok D A' va);
-  first = λ D va. h.first D (valid_map n cut' cut ok' ok D A' va);
-}

@@ -1,22 +1,15 @@
--- Finished tables hold the cheapest roads of `rules`: for a centre x and an end t that it sees, each cell is one step
--- of Bellman's equation, and the next corners lead along the first of the cheapest roads.
+-- The theorems of `Ways`: its definitions and first laws are in specs/.
 use Rattle.std.specs.Prelude.{◌≡◌, ℕ, suc, ◌+◌, ◌<◌, ◌≤◌, min}
-use Rattle.std.proofs.Common.{sym, subst, inl, inr, arith}
+use Rattle.std.proofs.Common.{inl, inr, arith}
 use Rattle.std.proofs.Math.Decide.{dec_lt}
-use Rattle.rules.proofs.Table.{Way, Closes}
-use Rattle.rules.proofs.Roads.{path, Step, Tails, BestRoad, tails_road}
-use Rattle.rules.proofs.Columns.{pays, costs, Least, Solved}
-use Rattle.rules.proofs.Choice.{Sought, step_of}
-use Rattle.rules.proofs.Seek.{sought_attains, step_is}
-use Rattle.rules.proofs.Small.{road_first, value_at, start_at, seen_at, step_fits}
-
--- the line i j has a value
-abbrev pub May : ℕ → (ℕ → ℕ → ℕ) → ℕ → ℕ → Type 0
-May top val i j = val i j < top
-
--- x sees y
-abbrev pub Sees : (ℕ → ℕ → ℕ) → ℕ → ℕ → Type 0
-Sees veil x y = veil y x ≡ 0
+use Rattle.rules.specs.Table.{Way, Closes}
+use Rattle.rules.specs.Roads.{path}
+use Rattle.rules.proofs.Roads.{Step, Tails, BestRoad, tails_road}
+use Rattle.rules.specs.Columns.{pays, costs, Least, Solved}
+use Rattle.rules.specs.Choice.{Sought, step_of}
+use Rattle.rules.specs.Seek.{sought_attains, step_is}
+use Rattle.rules.specs.Small.{road_first, value_at, start_at, seen_at, step_fits}
+use Rattle.rules.specs.Ways.{May, Sees}
 
 module _ {top : ℕ} {w : ℕ → ℕ → ℕ} {cut : ℕ → ℕ → Type 0} {veil val left : ℕ → ℕ → ℕ} {road : ℕ → ℕ → ℕ → ℕ} {n : ℕ}
     (solved : Solved top w cut veil val left road n) where

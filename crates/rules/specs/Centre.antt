@@ -1,7 +1,7 @@
 -- Centres and the layout of the answer: document 01, "Cuttings" (what a centre is, and which one is reported) and
 -- "What comes back" (the bytes of a piece). `sees x y` is left open; 01 reads it as: x sees y in both drawings.
 -- These are the definitions that a reader has to believe, with the law that the layout fixes every byte.
-use Rattle.std.specs.Prelude.{◌≡◌, refl, ◌⊎◌, List, [], ◌∷◌, ◌++◌, ℕ, suc, ◌+◌, ◌≤◌, length}
+use Rattle.std.specs.Prelude.{◌≡◌, ◌⊎◌, List, [], ◌∷◌, ◌++◌, ℕ, ◌+◌, ◌≤◌, length}
 use Rattle.std.proofs.Common.{sym, ap, ap₂, ◌∙◌, inl, inr, arith, length-append}
 use Rattle.rules.specs.Lists.{In}
 

@@ -1,6 +1,6 @@
 -- What comes back does not hang on what the buffer held: in another buffer the number, the counts and the bytes used
 -- are the same, and the bytes after them are that buffer's own.
-use Rattle.std.specs.Prelude.{◌≡◌, refl, List, ◌++◌, ℕ, zero, suc, ◌<◌, length, take, drop}
+use Rattle.std.specs.Prelude.{◌≡◌, refl, List, ◌++◌, ℕ, zero, suc, length, take, drop}
 use Rattle.std.proofs.Common.{sym, ap, ap₂, ◌∙◌, arith, take_at}
 use Rattle.rules.specs.Refusals.{Line, FirstFailed}
 use Rattle.rules.specs.Plan.{Plan}

@@ -1,8 +1,10 @@
 -- What comes back: document 01, "What comes back", over any table of refusals and any plan. These definitions have to
--- be believed; that they leave nothing open is a theorem, in proofs/Result.
+-- be believed; the theorem is that they leave nothing open.
+-- (The theorems that follow are in proofs/, under the same name.)
 use Rattle.std.specs.Prelude.{◌≡◌, List, ◌++◌, ℕ, ◌<◌, length, drop}
+use Rattle.std.proofs.Common.{sym, ap, ◌∙◌}
 use Rattle.rules.specs.Cutting.{Pairs, pieces}
-use Rattle.rules.specs.Centre.{Layout}
+use Rattle.rules.specs.Centre.{Layout, layout_unique}
 use Rattle.rules.specs.Refusals.{Line, FirstFailed}
 use Rattle.rules.specs.Plan.{Plan, FirstBy}
 
@@ -40,3 +42,21 @@ pub record ComesBack (lines : List Line) (p : Plan) (n : ℕ) (before : List ℕ
   pub numbered : FirstFailed lines r.number
   pub refused : 0 < r.number → Refused before r
   pub given : r.number ≡ 0 → Given p n before r
+
+-- ---- no second result
+result_is : (r s : Result) → r.number ≡ s.number → r.count ≡ s.count → r.bytes ≡ s.bytes →
+    r.after ≡ s.after → r ≡ s
+result_is r s k c b a = λ i. record { number = k i; count = c i; bytes = b i; after = a i }
+
+pub refused_unique : (before : List ℕ) (r s : Result) → r.number ≡ s.number → Refused before r →
+    Refused before s → r ≡ s
+refused_unique before r s e g h =
+    result_is r s e (g.no_pieces ∙ sym h.no_pieces) (g.no_bytes ∙ sym h.no_bytes) (g.kept ∙ sym h.kept)
+
+pub carries_unique : (centre : ℕ → List ℕ → Type 0) → ((S : List ℕ) (x y : ℕ) → centre x S → centre y S → x ≡ y) →
+    (told : List (List ℕ)) (before : List ℕ) (r s : Result) → r.number ≡ s.number →
+    Carries centre told before r → Carries centre told before s → r ≡ s
+carries_unique centre one told before r s e g h =
+    let l = layout_unique centre one told g.laid h.laid g.layout h.layout in
+    result_is r s e (g.counted ∙ sym h.counted) (g.used ∙ ap length l ∙ sym h.used)
+    (g.written ∙ ap (λ x. x ++ drop (length x) before) l ∙ sym h.written)

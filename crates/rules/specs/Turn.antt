@@ -1,6 +1,6 @@
 -- Renumbering by one corner, numbers and lists: corner i becomes i+1, and the last becomes 0. A list of corners goes
 -- from the new numbers back to the old, in rising order again; members, neighbours and centres go with it.
-use Rattle.std.specs.Prelude.{◌≡◌, refl, ◌⊎◌, ◌↔◌, List, [], ◌∷◌, ◌++◌, ℕ, zero, suc, ◌+◌, ◌-◌, ◌≤◌, ◌<◌, length}
+use Rattle.std.specs.Prelude.{◌≡◌, refl, ◌⊎◌, ◌↔◌, List, [], ◌∷◌, ◌++◌, ℕ, zero, suc, ◌-◌, ◌≤◌, ◌<◌, length}
 use Rattle.std.proofs.Common.{sym, ap, subst, inl, inr, ⊎_elim, arith, length-append}
 use Rattle.std.proofs.Math.Decide.{dec_lt}
 use Rattle.rules.specs.Lists.{In, in_left, in_right, in_split, Rising, rising_append, rising_ext}

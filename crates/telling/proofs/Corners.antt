@@ -9,7 +9,7 @@ use lib.ListN.{length, get_or, drop, drop_of_length-le}
 use lib.Seq.{drop-cons}
 use Rattle.limits.specs.Limits.{row}
 use Rattle.rules.specs.Lists.{In}
-use Rattle.rules.proofs.Lays.{all, first}
+use Rattle.rules.specs.Lays.{all, first}
 use Rattle.telling.specs.Parts.{Small}
 
 corner_in : (S : List ℕ) (p : ℕ) → p < length S → In (get_or S p 0) S

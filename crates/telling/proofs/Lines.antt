@@ -14,10 +14,10 @@ use Rattle.limits.specs.Limits.{row}
 use Rattle.rules.specs.Lists.{Rise}
 use Rattle.rules.specs.Cutting.{corners, below}
 use Rattle.rules.specs.Cells.{marked}
-use Rattle.rules.proofs.Order.{tri}
-use Rattle.rules.proofs.Walk.{Wide, After, walk, Step, step_from, step_next, step_on, narrower}
-use Rattle.rules.proofs.Walk.{corners_more, corners_end, corners_rise}
-use Rattle.rules.proofs.Lays.{lay_all, blank}
+use Rattle.rules.specs.Order.{tri}
+use Rattle.rules.specs.Walk.{Wide, After, walk, Step, step_from, step_next, step_on, narrower}
+use Rattle.rules.specs.Walk.{corners_more, corners_end, corners_rise}
+use Rattle.rules.specs.Lays.{lay_all, blank}
 use Rattle.telling.specs.Parts.{Wrote, Reads, Standing, first_of, last_of}
 use Rattle.telling.specs.Parts.{corners_after, piece_bytes, lines_bytes, range_bytes}
 use Rattle.telling.proofs.Tellings.{pairs_wide, lines_more, lines_end, range_more}

@@ -12,7 +12,7 @@ use lib.ListN.{length, get_or, set, take, drop, length-append}
 use lib.Seq.{drop-append-add, take-append_seam, get_or_at, set_at}
 use Rattle.rules.specs.Lists.{In}
 use Rattle.rules.specs.Centre.{size}
-use Rattle.rules.proofs.Lays.{lay, lay_all, lay_size}
+use Rattle.rules.specs.Lays.{lay, lay_all, lay_size}
 use Rattle.telling.specs.Parts.{Small, Holds, Pieces}
 
 -- the bytes before at have their centres, the pieces todo have not

@@ -10,11 +10,12 @@ use Rattle.limits.specs.Limits.{row, Roomy}
 use Rattle.rules.specs.Cutting.{Pairs, corners, below, told, pieces}
 use Rattle.rules.specs.Cells.{filled, marked, both_see, InBoth, marked_wide, marked_is, both_see_is}
 use Rattle.rules.specs.Centre.{LowestOrZero}
-use Rattle.rules.proofs.Walk.{Wide, After, walk, line, Step, below_end, line_end, below_more, line_more, pieces_line}
+use Rattle.rules.specs.Walk.{Wide, After, walk, line, Step, below_end, line_end, below_more, line_more, pieces_line}
 use Rattle.rules.proofs.AnyPairs.{any_shaped, any_size, any_room}
-use Rattle.rules.proofs.Lays.{Says, centre, lowest_or_zero_map, centre_shown, lay}
-use Rattle.rules.proofs.Lays.{lay_all, blank, lay_layout, lay_append, lay_size}
-use Rattle.rules.proofs.Agree.{layout_map}
+use Rattle.rules.specs.Lays.{Says, centre, lowest_or_zero_map, lay}
+use Rattle.rules.proofs.Lays.{centre_shown}
+use Rattle.rules.specs.Lays.{lay_all, blank, lay_layout, lay_append, lay_size}
+use Rattle.rules.specs.Agree.{layout_map}
 use Rattle.rules.specs.Result.{Carries}
 use Rattle.telling.specs.Answer.{result_of, Served}
 use Rattle.telling.specs.declared.Told.TheVariants as case

@@ -10,8 +10,8 @@ use Rattle.rules.proofs.Regions.{pieces_regions}
 use Rattle.rules.specs.Refusals.{FirstFailed}
 use Rattle.rules.specs.Plan.{stars, FirstBy}
 use Rattle.rules.specs.Result.{Result, Carries, Given}
-use Rattle.rules.proofs.Agree.{layout_map}
-use Rattle.rules.proofs.Lays.{lowest_or_zero_lowest}
+use Rattle.rules.specs.Agree.{layout_map}
+use Rattle.rules.specs.Lays.{lowest_or_zero_lowest}
 use Rattle.rules.specs.Cells.{marked, InBoth}
 use Rattle.telling.specs.Answer.{Served, asked, Telling}
 

@@ -5,10 +5,10 @@ use Rattle.limits.specs.Limits.{row}
 use Rattle.rules.specs.Lists.{In}
 use Rattle.rules.specs.Cutting.{corners, below, told}
 use Rattle.rules.specs.Centre.{size}
-use Rattle.rules.proofs.Lays.{centre}
+use Rattle.rules.specs.Lays.{centre}
 use Rattle.rules.specs.Cells.{marked, both_see}
-use Rattle.rules.proofs.Walk.{walk, line}
-use Rattle.rules.proofs.Lays.{lay, lay_all, blank}
+use Rattle.rules.specs.Walk.{walk, line}
+use Rattle.rules.specs.Lays.{lay, lay_all, blank}
 
 -- ---- of the piece on the line i j: its corners after i, its bytes, and those of the ranges under its lines; and of
 -- the range, which is both. No centre stands in its place yet.

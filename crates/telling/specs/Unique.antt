@@ -7,7 +7,7 @@ use Rattle.rules.specs.Centre.{LowestOrZero, lowest_or_zero_one}
 use Rattle.rules.specs.Cells.{marked, InBoth}
 use Rattle.rules.specs.Refusals.{failed_unique}
 use Rattle.rules.specs.Result.{Result}
-use Rattle.rules.proofs.Result.{refused_unique, carries_unique}
+use Rattle.rules.specs.Result.{refused_unique, carries_unique}
 use Rattle.telling.specs.Answer.{result_of, asked, Telling}
 use Rattle.telling.specs.declared.Told.{Told}
 use Rattle.telling.specs.declared.Told.TheVariants.{Unserved, Short, Pieces}

@@ -5,7 +5,7 @@
 ghost use Rattle.std.specs.Prelude.{◌≡◌, ◌<◌, ◌≤◌, length};
 ghost use Rattle.limits.specs.Limits.{row, all_cells};
 ghost use Rattle.rules.specs.Cells.{both_see};
-ghost use Rattle.rules.proofs.Lays.{all, centre};
+ghost use Rattle.rules.specs.Lays.{all, centre};
 ghost use Rattle.telling.specs.Parts.{Small, Pieces, Centred};
 
 use crate::cells::{sees, wide};

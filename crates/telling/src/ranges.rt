@@ -11,7 +11,7 @@
 ghost use Rattle.std.specs.Prelude.{◌+◌, ◌<◌, ◌≤◌, length};
 ghost use Rattle.limits.specs.Limits.{row, all_cells};
 ghost use Rattle.rules.specs.Cells.{marked};
-ghost use Rattle.rules.proofs.Walk.{After};
+ghost use Rattle.rules.specs.Walk.{After};
 ghost use Rattle.telling.specs.Parts.{Wrote, Standing, first_of, last_of};
 ghost use Rattle.telling.specs.Parts.{corners_after, piece_bytes, lines_bytes, range_bytes};
 

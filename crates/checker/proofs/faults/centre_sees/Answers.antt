@@ -3,7 +3,7 @@ use mathlib.Core.Path.{sym, ◌∙◌}
 use mathlib.Core.List.{List}
 use Prim.Native.Nat.{ℕ}
 use Rattle.rules.specs.Cells.{centre_sees}
-use Rattle.rules.proofs.Lays.{all}
+use Rattle.rules.specs.Lays.{all}
 use Rattle.outline.specs.Tells.{Tells}
 use Rattle.checker.specs.Checks.{CentreSeesAll}
 use Rattle.checker.specs.Parts.{piece, in_cells}

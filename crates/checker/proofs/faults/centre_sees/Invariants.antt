@@ -3,7 +3,7 @@ use mathlib.Core.Path.{◌≡◌}
 use Prim.Native.Nat.{◌-◌}
 use lib.ListN.{drop}
 use Rattle.rules.specs.Cells.{centre_sees}
-use Rattle.rules.proofs.Lays.{all}
+use Rattle.rules.specs.Lays.{all}
 use Rattle.checker.proofs.faults.centre_sees.Given as goal
 
 abbrev pub invariant-loop-i : goal.invariant-loop-i

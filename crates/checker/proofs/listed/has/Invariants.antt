@@ -3,7 +3,7 @@ use mathlib.Core.Path.{◌≡◌}
 use Prim.Native.Nat.{◌-◌}
 use lib.Dec.{eqb}
 use lib.ListN.{drop}
-use Rattle.rules.proofs.Lays.{some}
+use Rattle.rules.specs.Lays.{some}
 use Rattle.checker.proofs.listed.has.Given as goal
 
 abbrev pub invariant-loop-i : goal.invariant-loop-i

@@ -1,7 +1,7 @@
 -- `lines::through`: the least of the centres before x.
 use Prim.Native.Nat.{◌+◌, ◌≤◌, ◌<◌, ◌-◌}
 use Rattle.rules.specs.Cells.{cell}
-use Rattle.rules.proofs.Columns.{Least}
+use Rattle.rules.specs.Columns.{Least}
 use Rattle.cutting.specs.Rows.{none}
 use Rattle.cutting.proofs.lines.through.Given as goal
 

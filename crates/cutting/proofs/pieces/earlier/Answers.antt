@@ -1,7 +1,7 @@
 -- `pieces::earlier`: which comes first is decided by what is left from c on.
 use mathlib.Core.Path.{refl}
 use native.Mathlib.Omega.{arith}
-use Rattle.rules.proofs.Follow.{rest_end}
+use Rattle.rules.specs.Follow.{rest_end}
 use Rattle.cutting.proofs.Corners.{less_on, less_at, less_end}
 use Rattle.cutting.proofs.pieces.earlier.Goals as goal
 

@@ -1,7 +1,7 @@
 -- `pieces::earlier`: which comes first is decided by what is left from c on.
 use mathlib.Core.Path.{◌≡◌}
 use Prim.Native.Nat.{◌≤◌, ◌-◌}
-use Rattle.rules.proofs.Choice.{less}
+use Rattle.rules.specs.Choice.{less}
 use Rattle.cutting.specs.Tracing.{rest_in}
 use Rattle.cutting.proofs.pieces.earlier.Given as goal
 

@@ -2,7 +2,7 @@
 use mathlib.Core.Path.{◌≡◌}
 use Prim.Native.Nat.{◌≤◌, ◌-◌, ◌+◌}
 use Rattle.rules.specs.Cutting.{one}
-use Rattle.rules.proofs.Choice.{pick_from}
+use Rattle.rules.specs.Choice.{pick_from}
 use Rattle.rules.specs.Cells.{cell}
 use Rattle.cutting.specs.Rows.{none}
 use Rattle.cutting.proofs.pieces.pick.Given as goal

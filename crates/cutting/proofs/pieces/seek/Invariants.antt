@@ -1,7 +1,7 @@
 -- `pieces::seek`: no corner before b costs what is looked for.
 use mathlib.Core.Path.{◌≡◌}
 use Prim.Native.Nat.{ℕ, ◌≤◌, ◌<◌, ◌-◌}
-use Rattle.rules.proofs.Columns.{costs}
+use Rattle.rules.specs.Columns.{costs}
 use Rattle.rules.specs.Cells.{cell}
 use Rattle.cutting.specs.Rows.{none}
 use Rattle.cutting.proofs.pieces.seek.Given as goal

@@ -1,6 +1,6 @@
 -- `tracing::mark`: the lines before c are in the set.
 use native.Mathlib.Omega.{arith}
-use Rattle.rules.proofs.Follow.{rest_end}
+use Rattle.rules.specs.Follow.{rest_end}
 use Rattle.cutting.proofs.Marking.{marking_none, marking_more, marking_end}
 use Rattle.cutting.proofs.tracing.mark.Goals as goal
 

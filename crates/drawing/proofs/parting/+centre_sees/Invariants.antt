@@ -1,5 +1,5 @@
 -- What falls is the square of the segment's length.
-use Rattle.outline.proofs.Third.{long}
+use Rattle.outline.specs.Third.{long}
 use Rattle.drawing.proofs.parting.+centre_sees.Given as goal
 
 abbrev pub decreases-centre_sees : goal.decreases-centre_sees

@@ -8,7 +8,8 @@ use Rattle.outline.specs.Drawing.{Sound, corners, Angle, Beside}
 use Rattle.outline.specs.InOrOn.{CentreSees}
 use Rattle.outline.specs.Tells.{if_yes, if_no}
 use Rattle.outline.specs.Seeing.{beside_or}
-use Rattle.outline.proofs.Begins.{Begins, inside_or_along}
+use Rattle.outline.specs.Begins.{Begins}
+use Rattle.outline.proofs.Begins.{inside_or_along}
 use Rattle.drawing.specs.Table.{Early}
 use Rattle.drawing.proofs.seeing.look.Goals as goal
 

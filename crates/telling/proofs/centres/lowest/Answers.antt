@@ -1,7 +1,7 @@
 -- `centres::lowest`: the first centre is looked for from p on.
 use mathlib.Core.Path.{refl, sym, ◌∙◌}
 use Rattle.rules.specs.Cells.{both_see}
-use Rattle.rules.proofs.Lays.{all}
+use Rattle.rules.specs.Lays.{all}
 use Rattle.telling.proofs.Corners.{corner_small, first_on, first_at, first_end}
 use Rattle.telling.proofs.centres.lowest.Goals as goal
 

@@ -3,8 +3,8 @@ use mathlib.Core.Path.{◌≡◌}
 use Prim.Native.Nat.{◌-◌}
 use lib.ListN.{length, drop}
 use Rattle.rules.specs.Cells.{both_see}
-use Rattle.rules.proofs.Lays.{all, centre}
-use Rattle.rules.proofs.Lays as lays
+use Rattle.rules.specs.Lays.{all, centre}
+use Rattle.rules.specs.Lays as lays
 use Rattle.telling.proofs.centres.lowest.Given as goal
 
 abbrev pub invariant-loop-p : goal.invariant-loop-p

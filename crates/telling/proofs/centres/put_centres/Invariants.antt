@@ -1,7 +1,7 @@
 -- `centres::put_centres`: the pieces before at have their centres.
 use Prim.Native.Nat.{◌-◌}
 use Rattle.rules.specs.Cells.{both_see}
-use Rattle.rules.proofs.Lays.{centre}
+use Rattle.rules.specs.Lays.{centre}
 use Rattle.telling.proofs.Passes.{Passed}
 use Rattle.telling.proofs.centres.put_centres.Given as goal
 

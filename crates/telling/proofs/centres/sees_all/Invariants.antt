@@ -3,7 +3,7 @@ use mathlib.Core.Path.{◌≡◌}
 use Prim.Native.Nat.{◌-◌}
 use lib.ListN.{length, drop}
 use Rattle.rules.specs.Cells.{both_see}
-use Rattle.rules.proofs.Lays.{all}
+use Rattle.rules.specs.Lays.{all}
 use Rattle.telling.proofs.centres.sees_all.Given as goal
 
 abbrev pub invariant-loop-p : goal.invariant-loop-p

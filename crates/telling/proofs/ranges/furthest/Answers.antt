@@ -2,7 +2,7 @@
 use mathlib.Core.Path.{sym, ◌∙◌}
 use native.Mathlib.Omega.{arith}
 use Rattle.rules.specs.Cells.{marked}
-use Rattle.rules.proofs.Walk.{seek_from, seek_hit, seek_on, seek_end}
+use Rattle.rules.specs.Walk.{seek_from, seek_hit, seek_on, seek_end}
 use Rattle.telling.proofs.Tellings.{pairs_wide, pair_is}
 use Rattle.telling.proofs.ranges.furthest.Goals as goal
 

@@ -1,7 +1,7 @@
 -- `ranges::piece`: the corners after the first, and then the three numbers before them.
 use native.Mathlib.Omega.{arith}
 use lib.ListN.{length-set}
-use Rattle.rules.proofs.Walk.{corners_few}
+use Rattle.rules.specs.Walk.{corners_few}
 use Rattle.telling.proofs.Tellings.{pairs_wide}
 use Rattle.telling.proofs.Stores.{wrote_piece}
 use Rattle.telling.proofs.ranges.piece.Goals as goal

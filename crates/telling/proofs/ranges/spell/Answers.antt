@@ -2,7 +2,7 @@
 use mathlib.Core.Path.{ap}
 use native.Mathlib.Omega.{arith}
 use lib.ListN.{length}
-use Rattle.rules.proofs.Walk.{step_from, step_on, corners_more, corners_end}
+use Rattle.rules.specs.Walk.{step_from, step_on, corners_more, corners_end}
 use Rattle.telling.proofs.Tellings.{pairs_wide}
 use Rattle.telling.proofs.Stores.{left_none, left_run, left_end, wrote_one}
 use Rattle.telling.proofs.ranges.spell.Goals as goal

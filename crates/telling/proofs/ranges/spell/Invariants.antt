@@ -2,7 +2,7 @@
 use Prim.Native.Nat.{◌-◌}
 use Rattle.rules.specs.Cutting.{corners}
 use Rattle.rules.specs.Cells.{marked}
-use Rattle.rules.proofs.Walk.{walk, Step}
+use Rattle.rules.specs.Walk.{walk, Step}
 use Rattle.telling.specs.Parts.{corners_after}
 use Rattle.telling.proofs.Stores.{Left}
 use Rattle.telling.proofs.ranges.spell.Given as goal
