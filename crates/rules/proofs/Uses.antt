@@ -1,7 +1,7 @@
 -- The theorems of `Uses`: its definitions and first laws are in specs/.
 use Rattle.std.specs.Prelude.{◌≡◌, refl, List, ℕ, suc, ◌-◌, ◌≤◌, ◌<◌, T}
 use Rattle.std.proofs.Common.{subst, inl, inr, ⊎_elim, arith}
-use Rattle.rules.specs.Cutting.{Pairs, cross_of, Inner, Uncrossed, Tree, leaf, link, tree}
+use Rattle.rules.specs.Cutting.{Pairs, Cross, Inner, Uncrossed, Tree, leaf, link, tree}
 use Rattle.rules.specs.Trees.{Node, Fit, Chain, Line, Range, chain_le}
 use Rattle.rules.specs.TreeOf.{Clear, LineOf, ChainOf, TreeOf, of_unique}
 use Rattle.rules.specs.Lines.{Stands}
@@ -29,7 +29,7 @@ module _ (cut : ℕ → ℕ → Type 0) (ok : List ℕ → Type 0) where
                 (λ e. omega (arith, e.1, stands_proper cut ok 0 m t h a b s.0 s.1 e.0));
           }
 
-      apart : (a b c d : ℕ) → T (uses 0 t a b) → T (uses 0 t c d) → cross_of a b c d → ⊥
+      apart : (a b c d : ℕ) → T (uses 0 t a b) → T (uses 0 t c d) → Cross a b c d → ⊥
       apart a b c d k k' =
           let s = uses_stands 0 t a b k in
           let s' = uses_stands 0 t c d k' in

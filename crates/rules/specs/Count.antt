@@ -6,7 +6,7 @@ use Rattle.std.proofs.Common.{ap, inl, inr, ⊎_elim, arith, length-append, eqb�
 use Rattle.std.proofs.Math.Dec.{ltb, ltb→lt}
 use Rattle.std.proofs.Math.Facts.{and_yes, yes_and}
 use Rattle.rules.specs.Lists.{In, Distinct, Rise, rise_le, rise_from, rise_last}
-use Rattle.rules.specs.Cutting.{Pairs, cross_of, Inner, Uncrossed, Joined, Near, Region}
+use Rattle.rules.specs.Cutting.{Pairs, Cross, Inner, Uncrossed, Joined, Near, Region}
 use Rattle.rules.specs.Cutting.{pieces, flat, last}
 use Rattle.rules.specs.Regions.{last_of}
 
@@ -74,7 +74,7 @@ module _ (n : ℕ) where
             no_side = ⊎_elim (λ e. omega arith) (λ e. omega (arith, e.1));
           }
 
-      apart : (a b c d : ℕ) → T (fan n a b) → T (fan n c d) → cross_of a b c d → ⊥
+      apart : (a b c d : ℕ) → T (fan n a b) → T (fan n c d) → Cross a b c d → ⊥
       apart a b c d h k =
           let p = fan_is a b h in
           let q = fan_is c d k in

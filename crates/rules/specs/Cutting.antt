@@ -19,8 +19,8 @@ abbrev pub Side : ℕ → ℕ → ℕ → Type 0
 Side n a b = (b ≡ suc a) ⊎ ((a ≡ 0) × (suc b ≡ n))
 
 -- "Two cuts cross when their numbers a<b and c<d satisfy a<c<b<d or c<a<d<b."
-abbrev pub cross_of : ℕ → ℕ → ℕ → ℕ → Type 0
-cross_of a b c d = ((a < c) × (c < b) × (b < d)) ⊎ ((c < a) × (a < d) × (d < b))
+abbrev pub Cross : ℕ → ℕ → ℕ → ℕ → Type 0
+Cross a b c d = ((a < c) × (c < b) × (b < d)) ⊎ ((c < a) × (a < d) × (d < b))
 
 -- a pair of n corners that is no side
 pub record Inner (n a b : ℕ) : Type 0 where
@@ -31,7 +31,7 @@ pub record Inner (n a b : ℕ) : Type 0 where
 -- a set of pairs, none a side, "no two of which cross"
 pub record Uncrossed (n : ℕ) (C : Pairs) : Type 0 where
   pub inner : (a b : ℕ) → T (C a b) → Inner n a b
-  pub apart : (a b c d : ℕ) → T (C a b) → T (C c d) → ¬ cross_of a b c d
+  pub apart : (a b c d : ℕ) → T (C a b) → T (C c d) → ¬ Cross a b c d
 
 -- ---- "Its pieces are the regions left, each named by its corners in rising order"
 -- No corner is set apart: round a region, neighbours are joined, by a side or by a pair of the set, and no other two

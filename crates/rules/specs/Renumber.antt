@@ -7,7 +7,7 @@ use Rattle.std.proofs.Common.{sym, subst, inl, inr, ⊎_elim, arith, ltb→lt, l
 use Rattle.std.proofs.Math.Logic.Iff
 use Rattle.std.specs.Float.Ieee.Fits.{and_i, and_l, and_r}
 use Rattle.rules.specs.Lists.{In, Rising}
-use Rattle.rules.specs.Cutting.{Pairs, cross_of, Inner, Uncrossed, Joined, Near, Region, pieces}
+use Rattle.rules.specs.Cutting.{Pairs, Cross, Inner, Uncrossed, Joined, Near, Region, pieces}
 use Rattle.rules.specs.Turn.{back, New, in_back, small_back, rising_back, length_back}
 use Rattle.rules.specs.Turn.{near_low, near_high}
 
@@ -36,7 +36,7 @@ turn_inner n C un (suc x) (suc y) c =
     }
 
 pub turn_apart : (n : ℕ) (C : Pairs) → Uncrossed n C → (a b c d : ℕ) → T (turn n C a b) →
-    T (turn n C c d) → ¬ cross_of a b c d
+    T (turn n C c d) → ¬ Cross a b c d
 turn_apart n C un a zero c d p q x = absurd p
 turn_apart n C un a (suc b) c zero p q x = absurd q
 turn_apart n C un zero (suc b) zero (suc d) p q x = ⊎_elim (λ e. omega arith) (λ e. omega arith) x
