@@ -169,8 +169,6 @@ def main():
             new = spanned(text)
             if new != text:
                 open(f, "w", encoding="utf-8").write(new)
-    with open("/tmp/w/respelled.tsv", "w", encoding="utf-8") as o:
-        o.writelines(f"{a}\t{b}\n" for a, b in sorted(table.items()))
     print(len(table), "names respelled;", len(fall), "kept")
     return 0
 

@@ -1,5 +1,6 @@
 -- Drawings and sight: document 01, "A sound drawing" and "Sight", and a centre's sight, document 02, K3. No code and
--- no table of a program occurs here.
+-- no table of a program occurs here. Where a line below names a theorem, it may stand in the file of that name in
+-- proofs/.
 
 -- ---- to be believed: the documents' words as definitions
 -- a drawing, simple and sound, and who sees whom in it
@@ -82,7 +83,7 @@ pub mod TestNeeded
 pub mod Reading
 pub mod CornersApart
 pub mod CentreTest
--- what needs no test; a corner on the segment; the middle alone
+-- what needs no test; a corner on the segment
 pub mod CentreSight
 pub mod CentreParts
 -- the test that antt computes, and what it says of 01's outlines

@@ -1,6 +1,7 @@
 -- The cutting theory: document 01, "Cuttings". No sight, no coordinate and no table of a program occurs in it: whether
 -- a pair may be a cut, whether a list of corners may be a piece, and what a piece weighs are left open (`cut`, `ok`,
--- `w`), and so is who sees whom (`sees`).
+-- `w`), and so is who sees whom (`sees`). Where a line below names a theorem, it may stand in the file of that name in
+-- proofs/.
 
 -- ---- to be believed: 01's words as definitions
 -- sets of pairs, crossing, regions, valid cuttings, the order in which pieces are told, the cutting that comes first
@@ -14,7 +15,7 @@ pub mod Refusals
 -- a plan: what may be a cut, what may be a piece, what a piece weighs, which corner stands in the centre's place; 01's
 -- plan
 pub mod Plan
--- what comes back, over such lines and a plan, and that no second result does
+-- what comes back, over such lines and a plan
 pub mod Result
 -- ---- tools
 -- lists: members, each once, rising

@@ -1,2 +1,2 @@
-// The cutting theory stands in specs/: definitions and theorems, no code.
+// The cutting theory: definitions and first laws in specs/, theorems that rest on an edited definition in proofs/. No code.
 #![tactic(auto)]

@@ -65,15 +65,18 @@ pub fn same(rt: &impl Print, line: u64, got: Got, due: Due, buffer: &[u8], after
     false
 }
 
+pub fn number(rt: &impl Print, what: &str, n: u64) {
+    let _ = print!(rt; "{what}{n}");
+}
+
 fn report(rt: &impl Print, line: u64, got: &Got, right: usize) {
-    let number = got.number;
-    let pieces = got.pieces;
-    let bytes = got.bytes;
-    let lands = counted(got.lands);
-    let x = bits(got.x.rest);
-    let y = bits(got.y.rest);
-    let _ = print!(rt;
-        "line {line}: number {number}, pieces {pieces}, bytes {bytes}, lands {lands}"
-    );
-    let _ = println!(rt; "; bits of the rests {x}, {y}; the buffer is right up to place {right}");
+    number(rt, "line ", line);
+    number(rt, ": number ", got.number as u64);
+    number(rt, ", pieces ", got.pieces as u64);
+    number(rt, ", bytes ", got.bytes as u64);
+    number(rt, ", lands ", counted(got.lands));
+    number(rt, "; bits of the rests ", bits(got.x.rest));
+    number(rt, ", ", bits(got.y.rest));
+    number(rt, "; the buffer is right up to place ", right as u64);
+    let _ = println!(rt; "");
 }
