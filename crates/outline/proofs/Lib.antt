@@ -1,5 +1,5 @@
--- Theorems of specs/ that rest on a definition which a must-fail edit turns: there they would count as text that cannot
--- be read, here they refuse the edit. Most stand in a file of the same name as their definitions and first laws.
+-- Theorems of specs/ that rest on a definition which a must-fail edit turns: there they would count as text that is
+-- not readable, here they refuse the edit. Most stand in a file of the same name as their definitions and first laws.
 -- a side that passes to the right; an odd number of them; how truth values add up; signs as truth values
 pub mod Passing
 -- the definitions read so, for a drawing's own corners

@@ -1,5 +1,5 @@
--- Theorems of specs/ that rest on a definition which a must-fail edit turns: there they would count as text that cannot
--- be read, here they refuse the edit. Most stand in a file of the same name as their definitions and first laws.
+-- Theorems of specs/ that rest on a definition which a must-fail edit turns: there they would count as text that is
+-- not readable, here they refuse the edit. Most stand in a file of the same name as their definitions and first laws.
 -- what comes back, over such lines and a plan, and that no second result does
 pub mod Result
 -- trees: what stands on a line, a chain, a range; runs, weights, lengths
