@@ -1,6 +1,5 @@
 -- Lines laid one behind the other.
 use mathlib.Core.Path.{◌≡◌, refl, sym, ◌∙◌, ap}
-use mathlib.Core.Bool.{true, false}
 use mathlib.Core.List.{List, [], ◌∷◌, ◌++◌, append-nil}
 use Prim.Native.Nat.{ℕ, zero, suc, ◌+◌, ◌≤◌}
 use native.Mathlib.Omega.{arith}
@@ -9,18 +8,14 @@ use lib.ListN.{length, take, drop, length-append}
 use lib.Seq.{length-take-le, take_at, drop_at, drop-drop}
 use Rattle.frames.specs.Frames.{Event, pair, fault, answer_line, refusal_line, fault_line}
 use Rattle.frames.specs.Answer.{Written}
-use Rattle.frames.specs.Reader.{ends_in_fault}
-use Rattle.frames.specs.declared.Reader.{Reader}
 use Rattle.limits.specs.Limits.{room}
 use Rattle.rules.specs.Result.{Result}
 use Rattle.desk.specs.Answer.{Answers}
 use Rattle.terminal.specs.Terminal.{reply, line_for, Answered, LineOf}
 use Rattle.terminal.specs.Longest.{pair_short}
-use Rattle.terminal.specs.Running.{Wrote, Ended}
+use Rattle.terminal.specs.Running.{Wrote}
 use Rattle.terminal.specs.Laying.{Space, Laid}
 use Rattle.terminal.specs.Whole.{lines_append}
-use Rattle.terminal.specs.declared.Session.{Session}
-use Rattle.terminal.specs.declared.Session.TheVariants as session
 
 -- ---- what `frames` writes
 laid : (e : Event) (line out out' : List ℕ) (at r : ℕ) → LineOf e line → at + length line ≤ length out →
@@ -77,22 +72,3 @@ wrote_more es e before out out' len r w l =
           ∙ drop-drop k len before
           ∙ ap (λ (n : ℕ). drop n before) (sym l.next));
     }
-
--- ---- the end of the input
-module _ {s : Session} {out : List ℕ} (lent : length fault_line ≤ length out) where
-  pub ends_over : s ≡ session.Over → Ended s out out session.Over 0
-  ends_over e = rw e (record { lent = lent; over = refl; wrote = wrote_none out })
-
-  module _ {r : Reader} (e : s ≡ session.Reading r) where
-    pub ends_well : ends_in_fault r ≡ false → Ended s out out session.Over 0
-    ends_well f = record { lent = lent; over = refl; wrote = rw (e, f) (wrote_none out) }
-
-    pub ends_badly : {out' : List ℕ} {len : ℕ} → ends_in_fault r ≡ true →
-        Written fault_line out 0 len out' → Ended s out out' session.Over len
-    ends_badly {out'} {len} f w =
-        record {
-          lent = lent;
-          over = refl;
-          wrote = rw (e, f)
-              (wrote_more [] fault out out out' 0 len (wrote_none out) (laid_fault out out' 0 len (omega arith) w));
-        }
