@@ -1,5 +1,4 @@
 -- `drawing::sight` meets its contract.
--- the judgement, where its case is known
 use Rattle.drawing.specs.Judging.{why}
 use Rattle.drawing.specs.Seen.{sight_kept, sight_told}
 use Rattle.drawing.specs.declared.Judged.TheVariants as is

@@ -1,5 +1,4 @@
 -- `drawing::segment::dot` meets its contract.
--- the function's entry, from after four reads of a field and from after eight
 use mir.Syntax.{w64}
 use Rattle.whole.specs.Bounds.{fit, loc, less, plus}
 use Rattle.drawing.proofs.Machine.{the_x, the_y, product}

@@ -1,5 +1,4 @@
 -- `drawing::segment::turn` meets its contract.
--- the function's entry, from after four reads of a field and from after eight
 use mir.Syntax.{w64}
 use Rattle.whole.specs.Bounds.{fit, loc, less}
 use Rattle.drawing.proofs.Machine.{the_x, the_y, product, turn_held}

@@ -1,6 +1,5 @@
 -- `drawing::simple::doubled_area` meets its contract: the sum is that of the sides passed, and no larger than they
 -- allow.
--- the machine's s is the sum of the first k sides
 use mathlib.Core.Path.{◌≡◌, refl, ap, ◌∙◌}
 use mathlib.Core.List.{List}
 use Prim.Native.Nat.{ℕ, ◌+◌, ◌*◌, ◌^◌, ◌≤◌, ◌<◌}
@@ -18,6 +17,7 @@ use Rattle.drawing.specs.Parts.{most_side_area, SideArea}
 use Rattle.drawing.proofs.Machine.{back, held}
 use Rattle.drawing.proofs.simple.doubled_area.Goals as goal
 
+-- the machine's s is the sum of the first k sides
 abbrev Sum : List ℤ → ℕ → ℤ → Type 0
 Sum d k s = Val s (area_to d k) (k * most_side_area)
 

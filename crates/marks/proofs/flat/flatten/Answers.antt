@@ -1,5 +1,4 @@
 -- `marks::flat::flatten` meets its contract.
--- a landing that is known, and steps that are read back
 use mathlib.Core.Path.{◌≡◌, sym, ap, ◌∙◌}
 use Prim.Native.Nat.{ℕ}
 use lib.IntN.{ℤ}
