@@ -11,10 +11,12 @@ use Rattle.rules.specs.Centre.{LowestOrZero}
 use Rattle.rules.specs.Cells.{marked, InBoth}
 use Rattle.rules.specs.Result.{Carries}
 use Rattle.telling.specs.Answer.{result_of, Served, Telling}
-use Rattle.telling.specs.declared.Told.TheVariants.{Unserved, Short, Pieces}
+use Rattle.std.specs.Prelude.{Ok, Err}
+use Rattle.telling.specs.declared.Told.{Told}
+use Rattle.telling.specs.declared.Refusal.TheVariants.{Unserved, Short}
 
 module _ {n : ℕ} {pairs first second out : List ℕ} where
-  pub unserved : ¬ Served n pairs first second → Telling n pairs first second out (result_of Unserved out)
+  pub unserved : ¬ Served n pairs first second → Telling n pairs first second out (result_of (Err Unserved) out)
   unserved fails = record {
     numbered = inl (fails, refl);
     refused = λ l. record { no_pieces = refl; no_bytes = refl; kept = refl };
@@ -22,15 +24,15 @@ module _ {n : ℕ} {pairs first second out : List ℕ} where
   }
 
   pub short : Served n pairs first second → ¬ Roomy n (length out) →
-      Telling n pairs first second out (result_of Short out)
+      Telling n pairs first second out (result_of (Err Short) out)
   short s fails = record {
     numbered = inr (s, inl (fails, refl));
     refused = λ l. record { no_pieces = refl; no_bytes = refl; kept = refl };
     given = λ e. absurd (omega (arith, e));
   }
 
-  pub given : {after : List ℕ} {count bytes : ℕ} → Served n pairs first second → Roomy n (length out) →
+  pub given : {after : List ℕ} {told : Told} → Served n pairs first second → Roomy n (length out) →
       Carries (LowestOrZero (InBoth first second)) (pieces n (marked pairs)) out
-      (result_of (Pieces count bytes) after) →
-      Telling n pairs first second out (result_of (Pieces count bytes) after)
+      (result_of (Ok told) after) →
+      Telling n pairs first second out (result_of (Ok told) after)
   given s r g = record { numbered = inr (s, inr (r, refl)); refused = λ l. absurd (omega (arith, l)); given = λ e. g }

@@ -18,7 +18,7 @@ use Rattle.rules.specs.Lays.{lay_all, blank, lay_layout, lay_append, lay_size}
 use Rattle.rules.specs.Agree.{layout_map}
 use Rattle.rules.specs.Result.{Carries}
 use Rattle.telling.specs.Answer.{result_of, Served}
-use Rattle.telling.specs.declared.Told.TheVariants as case
+use Rattle.std.specs.Prelude.{Ok}
 use Rattle.telling.specs.Parts.{Wrote, Holds, Pieces, Centred, range_bytes}
 
 -- ---- the cells
@@ -88,7 +88,7 @@ module _ {n : ℕ} {pairs first second : List ℕ} (s : Served n pairs first sec
 
     pub whole_given : {last : List ℕ} {count : ℕ} → Centred first second r after last → 4 * count + n ≡ r + 2 →
         Carries (LowestOrZero (InBoth first second)) (pieces n (marked pairs)) out
-        (result_of (case.Pieces count r) last)
+        (result_of (Ok (record { pieces = count; bytes = r })) last)
     whole_given f four =
         let l = pieces n (marked pairs) in
         let c = centre (both_see first second) in

@@ -6,7 +6,8 @@
 -- centre, its corners, and the rest of it is as before. Nothing is asked of the pairs: `pieces` is defined for all of
 -- them, crossing ones too, and never takes more than 5n-10 bytes (`any_room` of `rules`). No second result and no
 -- second buffer satisfy it (`tell_unique`).
-use Rattle.std.specs.Prelude.{◌≡◌, List, [], ◌∷◌, ℕ, ◌<◌, ◌≤◌, length}
+use Rattle.std.specs.Prelude.{◌≡◌, List, [], ◌∷◌, ℕ, ◌<◌, ◌≤◌, length, Ok, Err}
+use Rattle.std.specs.Prelude as std
 use Rattle.limits.specs.Limits.{fewest_corners, most_corners, all_cells, Roomy}
 use Rattle.rules.specs.Cutting.{pieces}
 use Rattle.rules.specs.Centre.{LowestOrZero}
@@ -14,13 +15,17 @@ use Rattle.rules.specs.Cells.{marked, InBoth}
 use Rattle.rules.specs.Refusals.{Line, line, FirstFailed}
 use Rattle.rules.specs.Result.{Result, Refused, Carries}
 use Rattle.telling.specs.declared.Told.{Told}
-use Rattle.telling.specs.declared.Told.TheVariants.{Unserved, Short, Pieces}
+use Rattle.telling.specs.declared.Refusal.{Refusal}
+use Rattle.telling.specs.declared.Refusal.TheVariants.{Unserved, Short}
 
--- ---- 01's number and values for each case
-abbrev pub result_of : Told → List ℕ → Result
-result_of Unserved after = record { number = 1; count = 0; bytes = 0; after = after }
-result_of Short after = record { number = 2; count = 0; bytes = 0; after = after }
-result_of (Pieces count bytes) after = record { number = 0; count = count; bytes = bytes; after = after }
+-- ---- 01's number for each refusal, and number and values for each case
+abbrev pub number : Refusal → ℕ
+number Unserved = 1
+number Short = 2
+
+abbrev pub result_of : std.Result Told Refusal → List ℕ → Result
+result_of (Ok told) after = record { number = 0; count = told.pieces; bytes = told.bytes; after = after }
+result_of (Err e) after = record { number = number e; count = 0; bytes = 0; after = after }
 
 -- ---- the lines of 01's table that can apply here
 -- 3 to 64 corners, and whole arrays of cells

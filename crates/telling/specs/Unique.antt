@@ -1,5 +1,6 @@
 -- No second result and no second buffer satisfy what `tell` promises.
-use Rattle.std.specs.Prelude.{◌≡◌, refl, List, ℕ, ◌<◌, length}
+use Rattle.std.specs.Prelude.{◌≡◌, refl, List, ℕ, ◌<◌, length, Ok, Err}
+use Rattle.std.specs.Prelude as std
 use Rattle.std.proofs.Common.{ap, arith}
 use Rattle.std.proofs.Math.Decide.{dec_lt}
 use Rattle.rules.specs.Cutting.{pieces}
@@ -10,7 +11,8 @@ use Rattle.rules.specs.Result.{Result}
 use Rattle.rules.specs.Result.{refused_unique, carries_unique}
 use Rattle.telling.specs.Answer.{result_of, asked, Telling}
 use Rattle.telling.specs.declared.Told.{Told}
-use Rattle.telling.specs.declared.Told.TheVariants.{Unserved, Short, Pieces}
+use Rattle.telling.specs.declared.Refusal.{Refusal}
+use Rattle.telling.specs.declared.Refusal.TheVariants.{Unserved, Short}
 
 module _ (n : ℕ) (pairs first second before : List ℕ) where
   pub telling_unique : (r s : Result) → Telling n pairs first second before r →
@@ -29,33 +31,26 @@ module _ (n : ℕ) (pairs first second before : List ℕ) where
           (a.given (omega arith)) (b.given (omega (arith, e)))
 
   -- so two calls return the same and leave the same buffer: a case has its own number
-  pub tell_unique : (o o' : Told) (after after' : List ℕ) → Telling n pairs first second before (result_of o after) →
+  pub tell_unique : (o o' : std.Result Told Refusal) (after after' : List ℕ) →
+      Telling n pairs first second before (result_of o after) →
       Telling n pairs first second before (result_of o' after') → (o ≡ o') × (after ≡ after')
   tell_unique o o' after after' t t' =
       let e = telling_unique (result_of o after) (result_of o' after') t t' in
       (case o o' e, back o o' e)
     where
-      back : (o o' : Told) → result_of o after ≡ result_of o' after' → after ≡ after'
-      back o o' e = ends o o' (ap (λ (r : Result). r.after) e)
-        where
-          ends : (o o' : Told) → (result_of o after).after ≡ (result_of o' after').after → after ≡ after'
-          ends Unserved Unserved e = e
-          ends Unserved Short e = e
-          ends Unserved (Pieces c b) e = e
-          ends Short Unserved e = e
-          ends Short Short e = e
-          ends Short (Pieces c b) e = e
-          ends (Pieces c b) Unserved e = e
-          ends (Pieces c b) Short e = e
-          ends (Pieces c b) (Pieces c' b') e = e
+      back : (o o' : std.Result Told Refusal) → result_of o after ≡ result_of o' after' → after ≡ after'
+      back (Ok t) (Ok t') e = ap (λ (r : Result). r.after) e
+      back (Ok t) (Err f) e = ap (λ (r : Result). r.after) e
+      back (Err f) (Ok t) e = ap (λ (r : Result). r.after) e
+      back (Err f) (Err f') e = ap (λ (r : Result). r.after) e
 
-      case : (o o' : Told) → result_of o after ≡ result_of o' after' → o ≡ o'
-      case Unserved Unserved e = refl
-      case Short Short e = refl
-      case (Pieces c b) (Pieces c' b') e = λ i. Pieces (e i).count (e i).bytes
-      case Unserved Short e = absurd (omega (arith, ap (λ (r : Result). r.number) e))
-      case Unserved (Pieces c b) e = absurd (omega (arith, ap (λ (r : Result). r.number) e))
-      case Short Unserved e = absurd (omega (arith, ap (λ (r : Result). r.number) e))
-      case Short (Pieces c b) e = absurd (omega (arith, ap (λ (r : Result). r.number) e))
-      case (Pieces c b) Unserved e = absurd (omega (arith, ap (λ (r : Result). r.number) e))
-      case (Pieces c b) Short e = absurd (omega (arith, ap (λ (r : Result). r.number) e))
+      case : (o o' : std.Result Told Refusal) → result_of o after ≡ result_of o' after' → o ≡ o'
+      case (Ok t) (Ok t') e = λ i. Ok (record { pieces = (e i).count; bytes = (e i).bytes })
+      case (Ok t) (Err Unserved) e = absurd (omega (arith, ap (λ (r : Result). r.number) e))
+      case (Ok t) (Err Short) e = absurd (omega (arith, ap (λ (r : Result). r.number) e))
+      case (Err Unserved) (Ok t) e = absurd (omega (arith, ap (λ (r : Result). r.number) e))
+      case (Err Short) (Ok t) e = absurd (omega (arith, ap (λ (r : Result). r.number) e))
+      case (Err Unserved) (Err Unserved) e = refl
+      case (Err Unserved) (Err Short) e = absurd (omega (arith, ap (λ (r : Result). r.number) e))
+      case (Err Short) (Err Unserved) e = absurd (omega (arith, ap (λ (r : Result). r.number) e))
+      case (Err Short) (Err Short) e = refl

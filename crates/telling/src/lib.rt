@@ -15,44 +15,56 @@ use centres::put_centres;
 use limits::{ALL_CELLS, FEWEST_CORNERS, MOST_CORNERS};
 use ranges::write_range;
 
-// What came of it: n or an array is out of the limits, the room is too small, or the pieces are told, with their count
-// and the count of bytes used. `result` has 01's number for each case.
-#[derive(Clone, Copy)]
-pub enum Told {
+// What was told: the count of pieces and the count of bytes used.
+#[derive(Clone, Copy, PartialEq, Eq, Debug)]
+pub struct Told {
+    pub pieces: usize,
+    pub bytes: usize,
+}
+
+// Why nothing was: n or an array is out of the limits, or the room is too small. `result_of` has 01's number for each
+// case.
+#[derive(Clone, Copy, PartialEq, Eq, Debug)]
+pub enum Refusal {
     Unserved,
     Short,
-    Pieces { pieces: usize, bytes: usize },
 }
 
 // The pieces of n corners cut along `pairs`, each with its lowest centre. The pair a < b is in the set where cell
 // a * ROW + b of `pairs` is not 0; x, as a centre, sees y in a drawing where cell x * ROW + y of `first` or `second`
 // has the 2 among its binary digits, and no other digit counts. The pairs may cross: what is told of them is fixed all
 // the same. p pieces take 4p + n - 2 bytes, at most 5n - 10. What is refused leaves `out` alone.
-pub fn tell(n: usize, pairs: &[u8], first: &[u8], second: &[u8], out: &mut [u8]) -> Told
+pub fn tell(
+    n: usize,
+    pairs: &[u8],
+    first: &[u8],
+    second: &[u8],
+    out: &mut [u8],
+) -> Result<Told, Refusal>
     ensures { Telling n pairs.now first.now second.now out.old (result_of result out.new) }
 {
     if n < FEWEST_CORNERS {
-        return Told::Unserved;
+        return Err(Refusal::Unserved);
     }
     if n > MOST_CORNERS {
-        return Told::Unserved;
+        return Err(Refusal::Unserved);
     }
     if pairs.len() < ALL_CELLS {
-        return Told::Unserved;
+        return Err(Refusal::Unserved);
     }
     if first.len() < ALL_CELLS {
-        return Told::Unserved;
+        return Err(Refusal::Unserved);
     }
     if second.len() < ALL_CELLS {
-        return Told::Unserved;
+        return Err(Refusal::Unserved);
     }
     if out.len() < 5 * n - 10 {
-        return Told::Short;
+        return Err(Refusal::Short);
     }
     let bytes = write_range(pairs, 0, n - 1, out, 0);
     put_centres(first, second, out, bytes);
-    Told::Pieces {
+    Ok(Told {
         pieces: (bytes + 2 - n) / 4,
         bytes,
-    }
+    })
 }
