@@ -18,8 +18,9 @@ use Rattle.rules.specs.Refusals.{FirstFailed}
 use Rattle.rules.specs.Agree.{Agree, stars_agree}
 use Rattle.rules.proofs.Agree.{valid_same, first_same}
 use Rattle.rules.specs.Ways.{Sees}
-use Rattle.cutting.specs.declared.Searched.{Searched}
-use Rattle.cutting.specs.declared.Searched.TheVariants.{Unserved, NoCutting, Found}
+use Rattle.cutting.specs.declared.Refusal.{Refusal}
+use Rattle.cutting.specs.declared.Refusal.TheVariants.{Unserved, NoCutting}
+use Rattle.std.specs.Prelude.{Result, Ok, Err}
 use Rattle.cutting.specs.Answer.{MayCut, plan, Served, asked, bit, Marks, number, Searches}
 use Rattle.cutting.specs.Rows.{Cut, Read}
 use Rattle.cutting.specs.Tracing.{Drawn, Finds}
@@ -42,7 +43,7 @@ module _ {first second cuts veil : List ℕ} {n : ℕ} (read : Read first second
 
   -- ---- the three ends
   pub searches_none : {before after : List ℕ} {r : Bool} → Served n first second before →
-      Finds cuts veil n before after r → r ≡ false → Searches n first second before after NoCutting
+      Finds cuts veil n before after r → r ≡ false → Searches n first second before after (Err NoCutting)
   searches_none s f e = record {
     numbered = inr (s, inl ((λ c. f.no_set e c.0 ((valid_same agree c.0).1 c.1)), refl));
     kept = λ lt. f.kept e;
@@ -51,7 +52,7 @@ module _ {first second cuts veil : List ℕ} {n : ℕ} (read : Read first second
 
   pub searches_found : {before after : List ℕ} {r : Bool} → Served n first second before →
       length before ≡ all_cells → Finds cuts veil n before after r → r ≡ true →
-      Searches n first second before after Found
+      Searches n first second before after (Ok tt)
   searches_found {before} {after} s size h e =
       let f = first_same agree (marked after) d.first in
       record {
@@ -80,7 +81,7 @@ module _ {first second cuts veil : List ℕ} {n : ℕ} (read : Read first second
           zero (yes h) = absurd (subst T e (ticks_marked a b d.ticks ar br (λ k. omega arith)))
 
 pub searches_not : {n : ℕ} {first second before : List ℕ} → ¬ Served n first second before →
-    Searches n first second before before Unserved
+    Searches n first second before before (Err Unserved)
 searches_not h = record { numbered = inl (h, refl); kept = λ lt. refl; found = λ z. absurd (omega (arith, z)) }
 
 -- ---- the first part of the array is searched into, the rest stays
@@ -101,7 +102,7 @@ served_part {before} s =
       e,
     )
 
-pub searches_part : {n : ℕ} {first second before part : List ℕ} {r : Searched} → Served n first second before →
+pub searches_part : {n : ℕ} {first second before part : List ℕ} {r : Result Unit Refusal} → Served n first second before →
     length part ≡ all_cells → Searches n first second (take all_cells before) part r →
     Searches n first second before (part ++ drop all_cells before) r
 searches_part {n} {first} {second} {before} {part} {r} s size p = record {

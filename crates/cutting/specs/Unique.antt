@@ -1,5 +1,5 @@
 -- No second result and no second array satisfy what `search` promises.
-use Rattle.std.specs.Prelude.{◌≡◌, refl, List, ℕ, zero, suc, ◌-◌, ◌*◌, ◌<◌, ◌≤◌, get_or}
+use Rattle.std.specs.Prelude.{◌≡◌, refl, Result, Ok, Err, List, ℕ, zero, suc, ◌-◌, ◌*◌, ◌<◌, ◌≤◌, get_or}
 use Rattle.std.proofs.Common.{sym, ap, subst, ◌∙◌, inl, inr, arith, ext_get_or}
 use Rattle.std.proofs.Math.Decide.{dec_lt}
 use Rattle.limits.specs.Limits.{fewest_corners, row, all_cells, place}
@@ -10,8 +10,8 @@ use Rattle.rules.specs.Refusals.{FirstFailed, failed_unique}
 use Rattle.rules.specs.Valid.{same_set}
 use Rattle.rules.proofs.Valid.{first_same}
 use Rattle.cutting.specs.Answer.{MayCut, number, Served, asked, bit, Marks, Searches}
-use Rattle.cutting.specs.declared.Searched.{Searched}
-use Rattle.cutting.specs.declared.Searched.TheVariants.{Unserved, NoCutting, Found}
+use Rattle.cutting.specs.declared.Refusal.{Refusal}
+use Rattle.cutting.specs.declared.Refusal.TheVariants.{Unserved, NoCutting}
 
 -- every cell is that of a pair
 placed : (f k : ℕ) → k < f * row → (a : ℕ) × (b : ℕ) × (a < f) × (b < row) × (place a b ≡ k)
@@ -49,18 +49,18 @@ found_served (inl f) = absurd (omega (arith, f.1))
 found_served (inr f) = f.0
 
 -- a case has its own number
-one_case : (r r' : Searched) → number r ≡ number r' → r ≡ r'
-one_case Unserved Unserved e = refl
-one_case NoCutting NoCutting e = refl
-one_case Found Found e = refl
-one_case Unserved NoCutting e = absurd (omega (arith, e))
-one_case Unserved Found e = absurd (omega (arith, e))
-one_case NoCutting Unserved e = absurd (omega (arith, e))
-one_case NoCutting Found e = absurd (omega (arith, e))
-one_case Found Unserved e = absurd (omega (arith, e))
-one_case Found NoCutting e = absurd (omega (arith, e))
+one_case : (r r' : Result Unit Refusal) → number r ≡ number r' → r ≡ r'
+one_case (Ok _) (Ok _) e = refl
+one_case (Err Unserved) (Err Unserved) e = refl
+one_case (Err NoCutting) (Err NoCutting) e = refl
+one_case (Err Unserved) (Err NoCutting) e = absurd (omega (arith, e))
+one_case (Err Unserved) (Ok _) e = absurd (omega (arith, e))
+one_case (Err NoCutting) (Err Unserved) e = absurd (omega (arith, e))
+one_case (Err NoCutting) (Ok _) e = absurd (omega (arith, e))
+one_case (Ok _) (Err Unserved) e = absurd (omega (arith, e))
+one_case (Ok _) (Err NoCutting) e = absurd (omega (arith, e))
 
-module _ (n : ℕ) (first second before after after' : List ℕ) (r r' : Searched) where
+module _ (n : ℕ) (first second before after after' : List ℕ) (r r' : Result Unit Refusal) where
   pub search_unique : Searches n first second before after r → Searches n first second before after' r' →
       (r ≡ r') × (after ≡ after')
   search_unique h k = (one_case r r' e, go (dec_lt 0 (number r)))

@@ -27,12 +27,11 @@ use lines::solve;
 use reading::read;
 use tracing::trace;
 
-// What came of it; `number` of `specs/Answer` has 01's number for each case, and `Searches` what it promises.
-#[derive(Clone, Copy)]
-pub enum Searched {
+// Why nothing was found; `number` of `specs/Answer` has 01's number for each case, and `Searches` what is promised.
+#[derive(Clone, Copy, PartialEq, Eq, Debug)]
+pub enum Refusal {
     Unserved,
     NoCutting,
-    Found,
 }
 
 // The tables are filled by the readings, and the set is traced from them, where there is one: the value of the whole
@@ -77,7 +76,7 @@ fn find(n: usize, cuts: &[u8], veil: &[u8], pairs: &mut [u8]) -> bool
 }
 
 // The readings stand in this one: behind it nobody looks at the caller's cells.
-fn frame(n: usize, first: &[u8], second: &[u8], pairs: &mut [u8]) -> Searched
+fn frame(n: usize, first: &[u8], second: &[u8], pairs: &mut [u8]) -> Result<(), Refusal>
     requires { Served n first.now second.now pairs.old × (length pairs.old ≡ all_cells) }
     ensures { Searches n first.now second.now pairs.old pairs.new result }
 {
@@ -85,9 +84,10 @@ fn frame(n: usize, first: &[u8], second: &[u8], pairs: &mut [u8]) -> Searched
     let mut veil = [0u8; ALL_CELLS];
     read(first, second, &mut cuts, &mut veil, n);
     if find(n, &cuts, &veil, pairs) {
-        return Searched::Found;
+        Ok(())
+    } else {
+        Err(Refusal::NoCutting)
     }
-    Searched::NoCutting
 }
 
 // The first smallest cutting of n corners. Cell x * 64 + y of `first` and of `second` tells two kinds of sight in that
@@ -95,23 +95,16 @@ fn frame(n: usize, first: &[u8], second: &[u8], pairs: &mut [u8]) -> Searched
 // binary digits counts. Where there is a cutting, cell a * 64 + b of `pairs` becomes 1 where a < b is a cut of the
 // first smallest, and every other cell of the 4,096 becomes 0; those beyond stay. What is not served leaves `pairs`
 // alone: n outside 3 to 64, arrays under 4,096 cells. So does a search without a find.
-pub fn search(n: usize, first: &[u8], second: &[u8], pairs: &mut [u8]) -> Searched
+pub fn search(n: usize, first: &[u8], second: &[u8], pairs: &mut [u8]) -> Result<(), Refusal>
     ensures { Searches n first.now second.now pairs.old pairs.new result }
 {
-    if n < FEWEST_CORNERS {
-        return Searched::Unserved;
-    }
-    if n > MOST_CORNERS {
-        return Searched::Unserved;
-    }
-    if first.len() < ALL_CELLS {
-        return Searched::Unserved;
-    }
-    if second.len() < ALL_CELLS {
-        return Searched::Unserved;
-    }
-    if pairs.len() < ALL_CELLS {
-        return Searched::Unserved;
+    if n < FEWEST_CORNERS
+        || n > MOST_CORNERS
+        || first.len() < ALL_CELLS
+        || second.len() < ALL_CELLS
+        || pairs.len() < ALL_CELLS
+    {
+        return Err(Refusal::Unserved);
     }
     frame(n, first, second, &mut pairs[..ALL_CELLS])
 }

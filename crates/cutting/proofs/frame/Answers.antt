@@ -19,7 +19,7 @@ returns-then-find c =
     let pre = c.requires in
     searches_found c.read.ensures pre.0 pre.1 c.find.ensures c.if-find.true
 
-pub returns : goal.returns
-returns c =
+pub returns-else-find : goal.returns-else-find
+returns-else-find c =
     let pre = c.requires in
     searches_none c.read.ensures pre.0 c.find.ensures c.if-find.false

@@ -5,19 +5,7 @@ use Rattle.cutting.proofs.Answers.{searches_not, part_size, served_part, searche
 use Rattle.cutting.proofs.search.Goals as goal
 
 pub returns-then-n-lt-FEWEST_CORNERS : goal.returns-then-n-lt-FEWEST_CORNERS
-returns-then-n-lt-FEWEST_CORNERS c = searches_not (λ s. omega (arith, s.fewest))
-
-pub returns-then-n-gt-MOST_CORNERS : goal.returns-then-n-gt-MOST_CORNERS
-returns-then-n-gt-MOST_CORNERS c = searches_not (λ s. omega (arith, s.most))
-
-pub returns-then-first-lt-ALL_CELLS : goal.returns-then-first-lt-ALL_CELLS
-returns-then-first-lt-ALL_CELLS c = searches_not (λ s. omega (arith, s.first_cells))
-
-pub returns-then-second-lt-ALL_CELLS : goal.returns-then-second-lt-ALL_CELLS
-returns-then-second-lt-ALL_CELLS c = searches_not (λ s. omega (arith, s.second_cells))
-
-pub returns-then-pairs-lt-ALL_CELLS : goal.returns-then-pairs-lt-ALL_CELLS
-returns-then-pairs-lt-ALL_CELLS c = searches_not (λ s. omega (arith, s.pairs_cells))
+returns-then-n-lt-FEWEST_CORNERS c = searches_not (λ s. omega (arith, c.then-n-lt-FEWEST_CORNERS.either))
 
 -- ---- after the five tests
 pub slice_bounds-frame-end-2 : goal.slice_bounds-frame-end-2
