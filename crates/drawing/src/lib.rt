@@ -19,52 +19,42 @@ mod table;
 
 use limits::ALL_CELLS;
 
-// What is wrong with a list of coordinates: the first of 01's conditions that it fails, in 01's order, or nothing.
-#[derive(Clone, Copy)]
-pub enum Judged {
+// What is wrong with a list of coordinates: the first of 01's conditions that it fails, in 01's order.
+#[derive(Clone, Copy, PartialEq, Eq, Debug)]
+pub enum Unsound {
     Misshapen,
     OutOfRange,
     NotSimple,
     NotAnticlockwise,
-    Sound,
 }
 
-pub fn judge(xy: &[i32]) -> Judged
+pub fn judge(xy: &[i32]) -> Result<(), Unsound>
     ensures { Judgement xy.now result }
 {
     if !corners::shaped(xy) {
-        return Judged::Misshapen;
+        return Err(Unsound::Misshapen);
     }
     if !corners::in_range(xy) {
-        return Judged::OutOfRange;
+        return Err(Unsound::OutOfRange);
     }
-    let simple = simple::simple(xy);
-    let area = simple::doubled_area(xy);
-    if !simple {
-        return Judged::NotSimple;
+    if !simple::simple(xy) {
+        return Err(Unsound::NotSimple);
     }
-    if area <= 0 {
-        return Judged::NotAnticlockwise;
+    if simple::doubled_area(xy) <= 0 {
+        return Err(Unsound::NotAnticlockwise);
     }
-    Judged::Sound
+    Ok(())
 }
 
 // The judgement of `xy`, and where it is sound who sees whom: cell i * 64 + j has a 1 where corner i sees corner j by
 // 01's rule, and 2 more where it sees it as a centre (02, K3). Every other cell keeps its value. Of a drawing that is
 // not sound nothing is told, nor where `cells` has no room for 64 rows.
-pub fn sight(xy: &[i32], cells: &mut [u8]) -> Judged
+pub fn sight(xy: &[i32], cells: &mut [u8]) -> Result<(), Unsound>
     ensures { Sight xy.now cells.old cells.new result }
 {
-    match judge(xy) {
-        Judged::Misshapen => Judged::Misshapen,
-        Judged::OutOfRange => Judged::OutOfRange,
-        Judged::NotSimple => Judged::NotSimple,
-        Judged::NotAnticlockwise => Judged::NotAnticlockwise,
-        Judged::Sound => {
-            tell(xy, cells);
-            Judged::Sound
-        }
-    }
+    judge(xy)?;
+    tell(xy, cells);
+    Ok(())
 }
 
 // Where there is room.
