@@ -4,5 +4,3 @@
 pub mod Passing
 -- ---- no second number, and no second buffer
 pub mod Unique
--- ---- one law for each return
-pub mod Laws

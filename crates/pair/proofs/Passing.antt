@@ -1,23 +1,25 @@
 -- The judgements of two drawings as numbers of the table, and what it says of a pair that its lines are passed.
-use Rattle.std.specs.Prelude.{◌≡◌, refl, ◌⊎◌, List, ℕ, ℤ}
+use Rattle.std.specs.Prelude.{◌≡◌, refl, ◌⊎◌, List, ℕ, ℤ, Result, Ok, Err, ⊤}
 use Rattle.std.proofs.Common.{inl, inr, arith}
 use Rattle.outline.specs.Drawing.{Shaped, Sound}
 use Rattle.drawing.specs.Judging.{Because}
-use Rattle.drawing.specs.declared.Judged.{Judged}
-use Rattle.drawing.specs.declared.Judged.TheVariants as is
+use Rattle.drawing.specs.declared.Unsound.{Unsound}
+use Rattle.drawing.specs.declared.Unsound.TheVariants as is
 use Rattle.rules.specs.Refusals.{FirstFailed, Hold, all_hold}
 use Rattle.pair.specs.Pair.{Alike, of_drawing, of_drawings, lines, Checks}
 use Rattle.pair.specs.Passing.{SoundPair, first_shaped, second_shaped}
 
 -- ---- a judgement's number is that of the first of the drawing's lines that fails, whichever drawing it is
-module _ (number : Judged → ℕ) (none : number is.Sound ≡ 0) {d : List ℤ} (shaped : Shaped d) where
-  pub judged : (r : Judged) → Because d r →
-      FirstFailed (of_drawing (number is.OutOfRange) (number is.NotSimple) (number is.NotAnticlockwise) d) (number r)
-  judged is.Misshapen b = absurd (b shaped)
-  judged is.OutOfRange b = inl (b.1, refl)
-  judged is.NotSimple b = inr (b.1, inl (b.2, refl))
-  judged is.NotAnticlockwise b = inr (b.1, inr (b.2, inl (b.3, refl)))
-  judged is.Sound b = inr (b.in_range, inr (b.simple, inr (b.anticlockwise, none)))
+module _ (number : Result ⊤ Unsound → ℕ) (none : number (Ok tt) ≡ 0) {d : List ℤ} (shaped : Shaped d) where
+  pub judged : (r : Result ⊤ Unsound) → Because d r →
+      FirstFailed
+      (of_drawing (number (Err is.OutOfRange)) (number (Err is.NotSimple)) (number (Err is.NotAnticlockwise)) d)
+      (number r)
+  judged (Err is.Misshapen) b = absurd (b shaped)
+  judged (Err is.OutOfRange) b = inl (b.1, refl)
+  judged (Err is.NotSimple) b = inr (b.1, inl (b.2, refl))
+  judged (Err is.NotAnticlockwise) b = inr (b.1, inr (b.2, inl (b.3, refl)))
+  judged (Ok _) b = inr (b.in_range, inr (b.simple, inr (b.anticlockwise, none)))
 
 -- lines of a drawing that hold make it sound, and the other way
 pub sound_of : (a b c : ℕ) (d : List ℤ) → Shaped d → Hold (of_drawing a b c d) → Sound d

@@ -1,12 +1,14 @@
 -- What 01's table asks of a pair of drawings: document 01, "What comes back", lines 1 and 3 to 8. To be believed, with
 -- a sound drawing as `outline` has it and the number of the first line that fails as `rules` has it.
-use Rattle.std.specs.Prelude.{◌≡◌, List, [], ◌∷◌, ◌++◌, ℕ, ◌*◌, ◌≤◌, ℤ, pos, length, ◌<ℤ◌}
+use Rattle.std.specs.Prelude.{◌≡◌, List, [], ◌∷◌, ◌++◌, ℕ, ◌*◌, ◌≤◌, ℤ, pos, length, ◌<ℤ◌, Result, Ok, Err, ⊤}
 use Rattle.limits.specs.Limits.{fewest_corners, most_corners}
 use Rattle.outline.specs.Drawing.{corners, InRange, Simple, Sound, doubled_area}
 use Rattle.drawing.specs.Judgement.{first_number, second_number}
 use Rattle.drawing.specs.Sight.{Told}
-use Rattle.drawing.specs.declared.Judged.{Judged}
+use Rattle.drawing.specs.declared.Unsound.{Unsound}
 use Rattle.rules.specs.Refusals.{Line, line, FirstFailed}
+use Rattle.pair.specs.declared.Refusal.{Refusal}
+use Rattle.pair.specs.declared.Refusal.TheVariants as is
 use Rattle.pair.specs.declared.Which.{Which}
 use Rattle.pair.specs.declared.Which.TheVariants.{First, Second}
 
@@ -32,8 +34,22 @@ of_drawings first second = of_drawing 3 4 5 first ++ of_drawing 6 7 8 second
 abbrev pub lines : List ℤ → List ℤ → List Line
 lines first second = line 1 (Alike first second) ∷ of_drawings first second
 
+-- ---- 01's number for each refusal, and 0 where nothing is refused
+abbrev pub number : Refusal → ℕ
+number is.Unlike = 1
+number is.FirstOutOfRange = 3
+number is.FirstNotSimple = 4
+number is.FirstNotAnticlockwise = 5
+number is.SecondOutOfRange = 6
+number is.SecondNotSimple = 7
+number is.SecondNotAnticlockwise = 8
+
+abbrev pub result_number : Result ⊤ Refusal → ℕ
+result_number (Ok _) = 0
+result_number (Err refusal) = number refusal
+
 -- 01's number for a judgement, by the drawing that was judged
-abbrev pub number_of : Which → Judged → ℕ
+abbrev pub number_of : Which → Result ⊤ Unsound → ℕ
 number_of First = first_number
 number_of Second = second_number
 
