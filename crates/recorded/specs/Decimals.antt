@@ -1,11 +1,7 @@
 -- Words and decimal numbers of a text. To be believed. A text is a list of bytes, a character its number in ASCII. Up
 -- to 32, the space, a byte is a blank; a word is a run of others.
-use Rattle.std.specs.Prelude.{Bool, true, false, cond, ◌&&◌, List, [], ◌∷◌, ℕ, zero, suc, ◌+◌, ◌*◌, ◌-◌, min, eqb, leb, ℤ, pos, ◌-ℤ◌, length, drop}
-use Rattle.std.proofs.Math.Option.{Option, none, some, get_or}
-use Rattle.recorded.specs.declared.decimals.Natural.{Natural}
-use Rattle.recorded.specs.declared.decimals.Byte.{Byte}
-use Rattle.recorded.specs.declared.decimals.Whole.{Whole}
-use Rattle.recorded.specs.declared.decimals.Listed.{Listed}
+use Rattle.std.specs.Prelude.{Option, Some, None, unwrap_or, ◌≡◌, Bool, true, false, cond, ◌&&◌, List, [], ◌∷◌, ℕ, zero, suc, ◌+◌, ◌*◌, ◌-◌, eqb, leb, ℤ, pos, ◌-ℤ◌, length, drop}
+use Rattle.recorded.specs.declared.words.Words.{Words}
 
 -- ---- words
 -- how many blanks a text begins with, and the word that it begins with
@@ -30,30 +26,32 @@ word_start text at = at + blanks (drop at text)
 -- ---- the number that a word tells
 -- what digits tell after some that tell m; none where a character is no digit
 abbrev pub decimal : ℕ → List ℕ → Option ℕ
-decimal m [] = some m
-decimal m (c ∷ w) = cond (leb 48 c && leb c 57) (decimal (m * 10 + (c - 48)) w) none
+decimal m [] = Some m
+decimal m (c ∷ w) = cond (leb 48 c && leb c 57) (decimal (m * 10 + (c - 48)) w) None
 
--- for numbers from here on, as for words that are no number, this is told
-abbrev pub no_number : ℕ
-no_number = 4294967296
+abbrev pub within : ℕ → Option ℕ → Option ℕ
+within most None = None
+within most (Some m) = cond (leb m most) (Some m) None
 
-abbrev pub or_no_number : Option ℕ → ℕ
-or_no_number none = no_number
-or_no_number (some m) = min m no_number
+-- a number of 32 bits that is not below zero; one of 8 bits
+unfoldable pub natural : List ℕ → Option ℕ
+natural [] = None
+natural (c ∷ w) = within 4294967295 (decimal 0 (c ∷ w))
 
-unfoldable pub natural : List ℕ → ℕ
-natural [] = no_number
-natural (c ∷ w) = or_no_number (decimal 0 (c ∷ w))
+unfoldable pub byte : List ℕ → Option ℕ
+byte w = within 255 (natural w)
 
 -- a number of 32 bits, with a minus where it is below zero
-abbrev pub above : ℕ → Option ℤ
-above m = cond (leb m 2147483647) (some (pos m)) none
+abbrev pub above : Option ℕ → Option ℤ
+above None = None
+above (Some m) = cond (leb m 2147483647) (Some (pos m)) None
 
-abbrev pub below : ℕ → Option ℤ
-below m = cond (leb m 2147483648) (some (pos 0 -ℤ pos m)) none
+abbrev pub below : Option ℕ → Option ℤ
+below None = None
+below (Some m) = cond (leb m 2147483648) (Some (pos 0 -ℤ pos m)) None
 
 unfoldable pub whole : List ℕ → Option ℤ
-whole [] = none
+whole [] = None
 whole (c ∷ w) = cond (eqb c 45) (below (natural w)) (above (natural (c ∷ w)))
 
 -- ---- what is read from a place on: the first word, and the place where it ends
@@ -63,45 +61,37 @@ first_word text at = word_at text (word_start text at)
 abbrev pub after : List ℕ → ℕ → ℕ
 after text at = word_end text (word_start text at)
 
-unfoldable pub natural_at : List ℕ → ℕ → Natural
-natural_at text at = record { value = natural (first_word text at); next = after text at }
+-- the text stays, and goes on at a place
+pub record Moved (old new : Words) (at : ℕ) : Type 0 where
+  pub same_text : new.text ≡ old.text
+  pub place : new.at ≡ at
 
-abbrev pub as_byte : ℕ → ℕ → Byte
-as_byte m next = record { good = leb m 255; value = cond (leb m 255) m 0; next = next }
-
-unfoldable pub byte_at : List ℕ → ℕ → Byte
-byte_at text at = as_byte (natural (first_word text at)) (after text at)
-
-abbrev pub is_number : Option ℤ → Bool
-is_number none = false
-is_number (some z) = true
-
-abbrev pub as_whole : Option ℤ → ℕ → Whole
-as_whole z next = record { good = is_number z; value = get_or z (pos 0); next = next }
-
-unfoldable pub whole_at : List ℕ → ℕ → Whole
-whole_at text at = as_whole (whole (first_word text at)) (after text at)
-
--- ---- a list: where its k-th number is looked for, and what is told of n of them
+-- ---- a list: where its k-th word is looked for, that word, and whether n of them all tell numbers
 unfoldable pub place : List ℕ → ℕ → ℕ → ℕ
 place text at zero = at
 place text at (suc k) = after text (place text at k)
 
-abbrev pub all : (ℕ → Bool) → ℕ → Bool
-all good zero = true
-all good (suc k) = all good k && good k
+abbrev pub word_in : List ℕ → ℕ → ℕ → List ℕ
+word_in text at k = first_word text (place text at k)
 
-abbrev pub listed : (ℕ → Bool) → List ℕ → ℕ → ℕ → Listed
-listed good text at n = record { good = all (λ k. good (place text at k)) n; next = place text at n }
+module _ {A : Type 0} (tell : List ℕ → Option A) where
+  abbrev pub is_number : Option A → Bool
+  is_number None = false
+  is_number (Some z) = true
 
-abbrev pub bytes_listed : List ℕ → ℕ → ℕ → Listed
-bytes_listed text = listed (λ k. (byte_at text k).good) text
+  abbrev pub all_numbers : List ℕ → ℕ → ℕ → Bool
+  all_numbers text at zero = true
+  all_numbers text at (suc k) = all_numbers text at k && is_number (tell (word_in text at k))
+
+  abbrev pub all_tell : List ℕ → ℕ → ℕ → Option (Unit {0})
+  all_tell text at n = cond (all_numbers text at n) (Some tt) None
+
+  -- 0 where the word is no number
+  abbrev pub number_in : A → List ℕ → ℕ → ℕ → A
+  number_in nought text at k = unwrap_or (tell (word_in text at k)) nought
 
 abbrev pub byte_in : List ℕ → ℕ → ℕ → ℕ
-byte_in text at k = (byte_at text (place text at k)).value
-
-abbrev pub wholes_listed : List ℕ → ℕ → ℕ → Listed
-wholes_listed text = listed (λ k. (whole_at text k).good) text
+byte_in = number_in byte 0
 
 abbrev pub whole_in : List ℕ → ℕ → ℕ → ℤ
-whole_in text at k = (whole_at text (place text at k)).value
+whole_in = number_in whole (pos 0)

@@ -1,54 +1,50 @@
--- Digits one after another, as they are read: this is what the private functions of `decimals` promise. It tells what
+-- Digits one after another, as they are read: this is what the private functions of `numbers` promise. They tell what
 -- the plain definition of a number tells.
-use Rattle.std.specs.Prelude.{◌≡◌, refl, Bool, true, false, cond, ◌&&◌, List, [], ◌∷◌, ℕ, ◌+◌, ◌*◌, ◌-◌, min, eqb, leb, length}
-use Rattle.std.proofs.Common.{ap, ◌∙◌, arith, eq-eqb, ne_eqb}
-use Rattle.std.proofs.Math.Option.{none}
-use Rattle.recorded.specs.Decimals.{decimal, no_number, or_no_number, natural, word_at, word_end}
-use Rattle.recorded.specs.declared.decimals.Natural.{Natural}
+use Rattle.std.specs.Prelude.{◌≡◌, refl, Bool, true, false, cond, ◌&&◌, List, [], ◌∷◌, ℕ, ◌+◌, ◌*◌, ◌-◌, ◌<◌, leb, Option, Some, None}
+use Rattle.std.proofs.Common.{arith}
+use Rattle.std.proofs.lemmas.Bool.{lt-leb, le-leb}
+use mathlib.Core.Logic.{by_cases}
+use native.Mathlib.Decide.{dec_lt}
+use Rattle.recorded.specs.Decimals.{decimal, within, natural}
 
 abbrev pub is_digit : ℕ → Bool
 is_digit c = leb 48 c && leb c 57
 
-abbrev pub with_digit : ℕ → ℕ → ℕ
-with_digit m c = cond (is_digit c) (min (m * 10 + (c - 48)) no_number) no_number
+-- a number, if there is one yet, with one digit more
+abbrev pub with_digit : Option ℕ → ℕ → Option ℕ
+with_digit None c = None
+with_digit (Some m) c = cond (is_digit c) (within 4294967295 (Some (m * 10 + (c - 48)))) None
 
-abbrev pub number : ℕ → List ℕ → ℕ
+abbrev pub number : Option ℕ → List ℕ → Option ℕ
 number m [] = m
 number m (c ∷ w) = number (with_digit m c) w
 
-abbrev pub ended : ℕ → ℕ → ℕ → Natural
-ended m at end = cond (eqb end at) (record { value = no_number; next = end }) (record { value = m; next = end })
-
-unfoldable pub natural_from : List ℕ → ℕ → Natural
-natural_from text at = record { value = natural (word_at text at); next = word_end text at }
-
 -- ---- what is no number stays so
-capped : (m d : ℕ) → min (min m no_number * 10 + d) no_number ≡ min (m * 10 + d) no_number
-capped m d = omega arith
-
-stuck_digit : (b : Bool) (d : ℕ) → cond b (min (no_number * 10 + d) no_number) no_number ≡ no_number
-stuck_digit true d = omega arith
-stuck_digit false d = refl
-
-stuck : (w : List ℕ) → number no_number w ≡ no_number
+pub stuck : (w : List ℕ) → number None w ≡ None
 stuck [] = refl
-stuck (c ∷ w) = ap (λ m. number m w) (stuck_digit (is_digit c) (c - 48)) ∙ stuck w
+stuck (c ∷ w) = stuck w
 
 -- ---- digits read one after another tell the decimal number
-same_digit : (b : Bool) (m d : ℕ) (w : List ℕ) →
-    ((k : ℕ) → number (min k no_number) w ≡ or_no_number (decimal k w)) →
-    number (cond b (min (min m no_number * 10 + d) no_number) no_number) w
-    ≡ or_no_number (cond b (decimal (m * 10 + d) w) none)
-same_digit true m d w rest = ap (λ k. number k w) (capped m d) ∙ rest (m * 10 + d)
-same_digit false m d w rest = stuck w
+-- after a number that fits, and after one that is too large
+module _ (m : ℕ) (w : List ℕ) (e : number (within 4294967295 (Some m)) w ≡ within 4294967295 (decimal m w)) where
+  fitting_digit : (b : Bool) →
+      number (cond b (within 4294967295 (Some m)) None) w ≡ within 4294967295 (cond b (decimal m w) None)
+  fitting_digit true = e
+  fitting_digit false = stuck w
 
-same : (m : ℕ) (w : List ℕ) → number (min m no_number) w ≡ or_no_number (decimal m w)
+  large_digit : (b : Bool) → 4294967295 < m → number None w ≡ within 4294967295 (cond b (decimal m w) None)
+  large_digit true h = let none : leb m 4294967295 ≡ false = lt-leb m 4294967295 h in rw none at e
+  large_digit false h = stuck w
+
+same : (m : ℕ) (w : List ℕ) → number (within 4294967295 (Some m)) w ≡ within 4294967295 (decimal m w)
 same m [] = refl
-same m (c ∷ w) = same_digit (is_digit c) m (c - 48) w (λ k. same k w)
+same m (c ∷ w) =
+    let more = m * 10 + (c - 48) in
+    by_cases (dec_lt 4294967295 m)
+    (λ h. rw (lt-leb m 4294967295 h) (large_digit more w (same more w) (is_digit c) (omega arith)))
+    (λ h. rw (le-leb m 4294967295 (omega arith)) (fitting_digit more w (same more w) (is_digit c)))
 
 -- ---- a word that has been read
-pub word_read : (w : List ℕ) (m at end : ℕ) → m ≡ number 0 w → end ≡ at + length w →
-    ended m at end ≡ record { value = natural w; next = at + length w }
+pub word_read : (c : ℕ) (w : List ℕ) → number (Some 0) (c ∷ w) ≡ natural (c ∷ w)
 unfolding natural
-word_read [] m at end e l = rw (eq-eqb end at (omega arith), l)
-word_read (c ∷ w) m at end e l = rw (ne_eqb end at (λ q. omega arith), e, l, same 0 (c ∷ w))
+word_read c w = same 0 (c ∷ w)

@@ -2,7 +2,7 @@
 // is lent and must leave.
 #![tactic(auto)]
 
-pub mod counted;
-pub mod decimals;
 pub mod floats;
 pub mod lent;
+pub mod numbers;
+pub mod words;

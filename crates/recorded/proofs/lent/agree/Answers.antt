@@ -1,34 +1,15 @@
 -- `lent::agree` meets its contract.
-use native.Mathlib.Omega.{arith}
-use Rattle.recorded.proofs.Places.{first_ends, second_ends, differ, agree_on}
+use Rattle.std.proofs.Common.{rules, tests, ◌∙◌, eqb}
+use Rattle.std.proofs.lemmas.Iterator.{YieldsList-from_slice, YieldsList-from_zip}
+use Rattle.std.proofs.lemmas.Iterator.Search.{YieldsList-from_take_while}
+use Rattle.std.proofs.lemmas.Iterator.Consumers.{count_from_yields_List, YieldsList-at}
+use Rattle.recorded.proofs.Agreeing.{agreeing_is}
 use Rattle.recorded.proofs.lent.agree.Goals as goal
-
-pub returns-then-i-b : goal.returns-then-i-b
-returns-then-i-b c =
-    let x = c.args in
-    let l = c.loop-i in
-    let h = second_ends x.a.now x.b.now l.i c.loop-i-test.true
-    c.if-i-b.true in
-    omega (arith, l.invariant, h)
-
-pub returns-then-a-i : goal.returns-then-a-i
-returns-then-a-i c =
-    let x = c.args in
-    let l = c.loop-i in
-    let h = differ x.a.now x.b.now l.i c.loop-i-test.true
-    c.if-i-b.false (λ e. omega arith) in
-    omega (arith, l.invariant, h)
-
-pub loop-i-preserved : goal.loop-i-preserved
-loop-i-preserved c =
-    let x = c.args in
-    let l = c.loop-i in
-    let h = agree_on x.a.now x.b.now l.i c.loop-i-test.true
-    c.if-i-b.false (omega arith) in
-    omega (arith, l.invariant, h)
 
 pub returns : goal.returns
 returns c =
-    let x = c.args in
-    let l = c.loop-i in
-    omega (arith, l.invariant, first_ends x.a.now x.b.now l.i c.loop-i-test.false)
+    count_from_yields_List c.take_while.result c.count.result c.count.ensures.ran
+    (YieldsList-from_take_while _ (λ p. eqb p.0 p.1)
+    (YieldsList-at c.take_while.ensures.source (YieldsList-from_zip (YieldsList-from_slice c.args.a.now cc) (YieldsList-from_slice c.args.b.now cc)))
+    c.take_while.ensures.closure c.take_while.ensures.done (λ x b q k. search (rules, tests)))
+    ∙ agreeing_is c.args.a.now c.args.b.now

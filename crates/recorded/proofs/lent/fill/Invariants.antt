@@ -1,12 +1,7 @@
--- `lent::fill` meets its contract.
-use Prim.Native.Nat.{◌-◌, ◌≤◌}
-use lib.ListN.{length}
+-- `lent::fill` meets its contract: the bytes so far are written.
+use Rattle.std.proofs.Common.{◌≡◌, ℕ, ◌<◌, get_or}
 use Rattle.recorded.specs.Lent.{unwritten}
-use Rattle.recorded.proofs.Places.{Held}
 use Rattle.recorded.proofs.lent.fill.Given as goal
 
 abbrev pub invariant-loop-i : goal.invariant-loop-i
-invariant-loop-i l = Held 0 unwritten l.initial.buffer l.buffer l.i × (l.i ≤ length l.initial.buffer)
-
-abbrev pub decreases-loop-i : goal.decreases-loop-i
-decreases-loop-i l = length l.initial.buffer - l.i
+invariant-loop-i l = (k : ℕ) → k < l.i → get_or l.buffer k 0 ≡ unwritten k

@@ -1,0 +1,8 @@
+-- `numbers::digits` meets its contract.
+use Rattle.std.proofs.Common.{rules, ◌∙◌}
+use Rattle.recorded.proofs.Reading.{no_digit}
+use Rattle.recorded.proofs.numbers.digits.Goals as goal
+
+pub returns-in_err-m : goal.returns-in_err-m
+returns-in_err-m c =
+    c.from_residual.ensures ∙ no_digit c.args.word.now _ c.loop-c.m c.loop-c-test.true c.loop-c.invariant (search rules)

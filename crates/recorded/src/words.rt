@@ -1,0 +1,135 @@
+// The words of a text, one after another.
+ghost use Rattle.std.specs.Prelude.{◌≡◌, ◌≤◌, Option, Some, None, pos, length, leb, cond, drop, IfSome};
+ghost use Rattle.recorded.specs.Decimals.{blanks, word, word_start, first_word, after, place, natural, byte, whole};
+ghost use Rattle.recorded.specs.Decimals.{all_tell, number_in, Moved};
+ghost use Rattle.recorded.specs.Counted.{fitting, counted_wholes, counted_bytes, list_end, list_in, left_in};
+ghost use Rattle.recorded.specs.Lent.{Holds};
+
+use crate::lent;
+use crate::numbers::Number;
+
+// A text, and the place in it from which the next word is looked for. Nothing is asked of the place: from the end on
+// there is no word, and no word tells no number.
+#[derive(Clone, Copy)]
+pub struct Words<'a> {
+    pub text: &'a [u8],
+    pub at: usize,
+}
+
+// How many blanks the text begins with.
+fn blanks(text: &[u8]) -> usize
+    ensures { result ≡ blanks text.now }
+{
+    text.iter().position(|c| *c > b' ').unwrap_or(text.len())
+}
+
+// How long the word is that the text begins with.
+fn word_len(text: &[u8]) -> usize
+    ensures { result ≡ length (word text.now) }
+{
+    text.iter().position(|c| *c <= b' ').unwrap_or(text.len())
+}
+
+impl<'a> Words<'a> {
+    pub fn new(text: &'a [u8]) -> Words<'a>
+        ensures text { result.text.now ≡ text.now }
+        ensures place { result.at ≡ 0 }
+    {
+        Words { text, at: 0 }
+    }
+
+    // The text from the place on.
+    fn rest(&self) -> &'a [u8]
+        ensures { result.now ≡ drop self.now.at self.now.text.now }
+    {
+        self.text.get(self.at..).unwrap_or(&[])
+    }
+
+    // Goes on to the next word; whether there is none.
+    pub fn is_done(&mut self) -> bool
+        ensures value { result ≡ leb (length self.old.text.now) (word_start self.old.text.now self.old.at) }
+        ensures place { Moved self.old self.new (word_start self.old.text.now self.old.at) }
+    {
+        self.at += blanks(self.rest());
+        self.at >= self.text.len()
+    }
+
+    // The next word; an empty one where there is none.
+    pub fn word(&mut self) -> &'a [u8]
+        ensures value { result.now ≡ first_word self.old.text.now self.old.at }
+        ensures place { Moved self.old self.new (after self.old.text.now self.old.at) }
+    {
+        self.at += blanks(self.rest());
+        let rest = self.rest();
+        let n = word_len(rest);
+        self.at += n;
+        &rest[..n]
+    }
+
+    // The number that the next word tells.
+    pub fn number<T: Number>(&mut self) -> Option<T>
+        ensures value { result ≡ T.told (first_word self.old.text.now self.old.at) }
+        ensures place { Moved self.old self.new (after self.old.text.now self.old.at) }
+    {
+        T::tell(self.word())
+    }
+
+    // A number that is not below zero.
+    pub fn natural(&mut self) -> Option<u32>
+        ensures value { result ≡ natural (first_word self.old.text.now self.old.at) }
+        ensures place { Moved self.old self.new (after self.old.text.now self.old.at) }
+    {
+        self.number()
+    }
+
+    // A number up to `most`.
+    pub fn up_to(&mut self, most: usize) -> Option<usize>
+        ensures value { result ≡ fitting self.old.text.now self.old.at most }
+        ensures bound { IfSome result (λ n. n ≤ most) }
+        ensures place { Moved self.old self.new (after self.old.text.now self.old.at) }
+    {
+        let n = self.natural()? as usize;
+        if n <= most { Some(n) } else { None }
+    }
+
+    // As many numbers as `out` is long; none where a word tells none, and there `out` has a nought.
+    pub fn fill<T: Number>(&mut self, out: &mut [T]) -> Option<()>
+        ensures value { result ≡ all_tell T.told self.old.text.now self.old.at (length out.old) }
+        ensures place { Moved self.old self.new (place self.old.text.now self.old.at (length out.old)) }
+        ensures holds { Holds T.NOUGHT (number_in T.told T.NOUGHT self.old.text.now self.old.at) out.old out.new }
+    {
+        let mut all = true;
+        for x in out.iter_mut() {
+            let n = self.number::<T>();
+            all &= n.is_some();
+            *x = n.unwrap_or(T::NOUGHT);
+        }
+        all.then_some(())
+    }
+
+    // A list that says how long it is, into the front of `out`: how many numbers, then each. Of one that has no room
+    // nothing is read.
+    pub fn list(&mut self, out: &mut [i32]) -> Option<usize>
+        ensures value { result ≡ counted_wholes self.old.text.now self.old.at (length out.old) }
+        ensures bound { IfSome result (λ n. n ≤ length out.old) }
+        ensures place { Moved self.old self.new (list_end self.old.text.now self.old.at (length out.old)) }
+        ensures holds { Holds (pos 0) (list_in self.old.text.now self.old.at out.old) out.old out.new }
+    {
+        let n = self.up_to(out.len())?;
+        self.fill(&mut out[..n])?;
+        Some(n)
+    }
+
+    // What a call must leave: the bytes that the text has (how many, then each), and after them what was there.
+    pub fn left(&mut self, out: &mut [u8]) -> Option<usize>
+        ensures value { result ≡ counted_bytes self.old.text.now self.old.at (length out.old) }
+        ensures bound { IfSome result (λ n. n ≤ length out.old) }
+        ensures place { Moved self.old self.new (list_end self.old.text.now self.old.at (length out.old)) }
+        ensures holds { Holds 0 (left_in self.old.text.now self.old.at (length out.old)) out.old out.new }
+    {
+        lent::fill(out);
+        let n = self.up_to(out.len())?;
+        self.fill(&mut out[..n])?;
+        Some(n)
+    }
+}
