@@ -102,8 +102,8 @@ served_part {before} s =
       e,
     )
 
-pub searches_part : {n : ℕ} {first second before part : List ℕ} {r : Result Unit Refusal} → Served n first second before →
-    length part ≡ all_cells → Searches n first second (take all_cells before) part r →
+pub searches_part : {n : ℕ} {first second before part : List ℕ} {r : Result Unit Refusal} →
+    Served n first second before → length part ≡ all_cells → Searches n first second (take all_cells before) part r →
     Searches n first second before (part ++ drop all_cells before) r
 searches_part {n} {first} {second} {before} {part} {r} s size p = record {
   numbered = lines p.numbered;

@@ -1,20 +1,74 @@
 -- Laws of the loops over the corners of a piece and over the centres of a line.
-use mathlib.Core.Path.{◌≡◌, refl, sym, ap, ap₂, ◌∙◌}
+use mathlib.Core.Path.{◌≡◌, refl, sym, ap, ap₂, subst, ◌∙◌}
 use mathlib.Core.Bool.{Bool, true, false, ◌&&◌, ◌||◌}
 use mathlib.Core.List.{List, [], ◌∷◌}
 use Prim.Native.Nat.{ℕ, zero, suc, ◌+◌, ◌-◌, ◌<◌, ◌≤◌, min}
 use native.Mathlib.Omega.{arith}
 use borrow.Author.Tests.{le-ltb, eq-eqb, ne_eqb}
 use lib.Dec.{ltb, eqb}
+use lib.ListN.{length}
+use Rattle.std.specs.Prelude.{Option, Some, None, MatchOption}
+use Rattle.std.specs.Option.{unwrap_or}
+use Rattle.std.specs.Bool.{MatchBool}
+use Rattle.std.specs.List.{range_with_len, AllWithin}
+use Rattle.std.proofs.lemmas.List.FromFn.{length-range_with_len, get_or-range_with_len}
 use Rattle.rules.specs.Cutting.{one}
 use Rattle.limits.specs.Limits.{row}
 use Rattle.cutting.specs.Rows.{none}
 use Rattle.rules.specs.Columns.{costs}
 use Rattle.rules.specs.Choice.{Sought, rest_of, fits, less, better, pick_from, pick_of}
 use Rattle.rules.specs.Cells.{cell}
-use Rattle.cutting.specs.Tracing.{next_in, rest_in, Next}
+use Rattle.cutting.specs.Tracing.{next_in, rest_in, Next, fits_in, LowestFit}
+use Rattle.cutting.proofs.Values.{clash}
 use Rattle.rules.specs.Seek.{sought_unique, step_is, next_left, next_right}
 use Rattle.rules.specs.Follow.{next_goes, rest_next, Goes}
+
+-- ---- a search over a range, where the end stands for none
+abbrev Found : (ℕ → Type 0) → (ℕ → Type 0) → ℕ → ℕ → Option ℕ → Type 0
+Found Yes No lo hi r =
+    MatchOption r ((k : ℕ) → lo ≤ k → k < hi → No k)
+    (λ i. (lo ≤ i) × (i < hi) × Yes i × ((k : ℕ) → lo ≤ k → k < i → No k))
+
+pub sought_found : (f : ℕ → ℕ) (v c t : ℕ) (r : Option ℕ) {s : ℕ} → c < t → s ≡ unwrap_or r t →
+    Found (λ k. f k ≡ v) (λ k. ¬ (f k ≡ v)) (c + 1) t r → Sought f v c t s
+sought_found f v c t None ct e h = rw e record {
+  from = ct;
+  to = omega arith;
+  before = λ k kt ck. h k (omega arith) kt;
+  hit = λ z. absurd (omega arith);
+}
+sought_found f v c t (Some i) ct e h = rw e record {
+  from = omega (arith, h.0);
+  to = omega (arith, h.1);
+  before = λ k ki ck. h.3 k (omega arith) ki;
+  hit = λ _. h.2;
+}
+
+pub lowest_found : (val left right : List ℕ) (i j : ℕ) (r : Option ℕ) {s : ℕ} → i ≤ j → s ≡ unwrap_or r j →
+    Found (λ y. fits_in val left right i j y ≡ true) (λ y. fits_in val left right i j y ≡ false) i j r →
+    LowestFit val left right i j s
+lowest_found val left right i j None ij e h = rw e record {
+  from = ij;
+  to = omega arith;
+  before = h;
+  hit = λ z. absurd (omega arith);
+}
+lowest_found val left right i j (Some x) ij e h = rw e record {
+  from = h.0;
+  to = omega (arith, h.1);
+  before = h.3;
+  hit = λ _. h.2;
+}
+
+pub every_found : (next : ℕ → ℕ) (i j : ℕ) (b : Bool) (No : Type 0) →
+    MatchBool b
+    (AllWithin (λ a. next a ≡ suc a) (range_with_len i (j - i)) 0 (length (range_with_len i (j - i)))) No →
+    b ≡ true → (a : ℕ) → i ≤ a → a < j → next a ≡ suc a
+every_found next i j true No h e a ia aj =
+    let k : i + (a - i) ≡ a = omega arith in
+    subst (λ (z : ℕ). next z ≡ suc z) (get_or-range_with_len i (j - i) (a - i) 0 (omega arith) ∙ k)
+    (h (a - i) 0 (omega arith) (omega (arith, length-range_with_len i (j - i))))
+every_found next i j false No h e a ia aj = clash (sym e)
 
 -- ---- what the code finds is the next corner
 module _ {val left col : List ℕ} {x j c d : ℕ} (xj : x ≤ j) where

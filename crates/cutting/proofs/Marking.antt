@@ -6,13 +6,13 @@ use Prim.Native.Nat.{ℕ, zero, suc, ◌+◌, ◌-◌, ◌<◌, ◌≤◌}
 use native.Mathlib.Omega.{arith}
 use native.Mathlib.Decide.{dec_lt, ℕ_discrete}
 use lib.Dec.{T}
-use lib.ListN.{length, get_or, set, length-set, get_or-eq_default}
-use borrow.Author.Count.{below_more}
+use lib.ListN.{length, get_or, set, length-set, replicate, length-replicate}
 use lib.Seq.{get_or-set_same, get_or-set_other}
 use Rattle.limits.specs.Limits.{row, all_cells, place}
 use Rattle.rules.specs.Cells.{cell, marked, filled_is, marked_wide, marked_small, marked_is}
 use Rattle.rules.specs.Traced.{LineOfRoad}
-use Rattle.cutting.specs.Tracing.{Ticks, Ticked, Marked, Cleared, Started}
+use Rattle.cutting.proofs.Rows.{zeros}
+use Rattle.cutting.specs.Tracing.{Ticks, Ticked, Marked, Started}
 
 pub above : (z : ℕ) → ¬ (z ≡ 0) → 0 < z
 above zero k = absurd (k refl)
@@ -144,38 +144,27 @@ marking_end {before} {out} {i} {c} {all} {rest} e m = record {
     none p q k = absurd (subst (λ (l : List ℕ). LineOfRoad c l p q) e k)
 
 -- ---- the set is begun
-pub cleared_none : {pairs : List ℕ} → Cleared pairs 0
-cleared_none = record { at = λ c h. absurd (omega arith) }
-
-pub cleared_more : {pairs : List ℕ} {k : ℕ} → k < length pairs → Cleared pairs k → Cleared (set pairs k 0) (k + 1)
-cleared_more {pairs} {k} h l = record {
-  at =
-      below_more _ _ (λ c p. get_or-set_other pairs k c 0 0 (λ e. omega arith) ∙ l.at c p)
-      (get_or-set_same pairs k 0 0 h);
-}
-
-pub cleared_at : {pairs : List ℕ} {k k' : ℕ} → k ≡ k' → Cleared pairs k → Cleared pairs k'
-cleared_at {pairs} e l = subst (λ (z : ℕ). Cleared pairs z) e l
-
-pub started : {pairs pairs' : List ℕ} {n : ℕ} → 3 ≤ n → n ≤ row → length pairs ≡ all_cells → Cleared pairs all_cells →
+pub started : {pairs pairs' : List ℕ} {n : ℕ} → 3 ≤ n → n ≤ row → pairs ≡ replicate all_cells 0 →
     pairs' ≡ set pairs (place 0 (n - 1)) 1 → Started pairs' n
-started {pairs} {pairs'} {n} n3 n64 size l e = record {
+started {pairs} {pairs'} {n} n3 n64 l e = record {
   ticks = T'.ticks;
   whole = T'.drawn (omega arith);
   only =
       λ c d h. ⊎_elim
-      (λ k. absurd (omega (arith, (marked_says pairs c d k).2, none (place c d) (dec_lt (place c d) all_cells))))
+      (λ k. absurd (omega (arith, (marked_says pairs c d k).2, none (place c d))))
       (λ k. (k.0, k.1)) (T'.only c d h);
 }
   where
-    none : (k : ℕ) → Dec (k < all_cells) → get_or pairs k 0 ≡ 0
-    none k (yes p) = l.at k p
-    none k (no p) = get_or-eq_default pairs 0 {n = k} (omega arith)
+    none : (k : ℕ) → get_or pairs k 0 ≡ 0
+    none k = ap (λ (t : List ℕ). get_or t k 0) l ∙ zeros all_cells k
+
+    size : length pairs ≡ all_cells
+    size = ap length l ∙ length-replicate {0} {A = ℕ} all_cells 0
 
     T' : Ticked pairs pairs' 0 (n - 1)
     T' =
         ticked_set (omega arith) (omega arith) (record {
           size = size;
-          bits = λ k. omega (arith, none k (dec_lt k all_cells));
-          rest = λ a b ar br h. none (place a b) (dec_lt (place a b) all_cells);
+          bits = λ k. omega (arith, none k);
+          rest = λ a b ar br h. none (place a b);
         }) e

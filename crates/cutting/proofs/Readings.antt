@@ -1,7 +1,7 @@
 -- Laws of the two readings as they are made.
-use mathlib.Core.Path.{◌≡◌, refl, sym, ap, subst, ◌∙◌}
+use mathlib.Core.Path.{◌≡◌, sym, ap, subst, ◌∙◌}
 use mathlib.Core.List.{List}
-use Prim.Native.Nat.{ℕ, zero, suc, ◌+◌, ◌<◌, ◌≤◌}
+use Prim.Native.Nat.{ℕ, ◌+◌, ◌<◌, ◌≤◌}
 use native.Mathlib.Omega.{arith}
 use native.Mathlib.Decide.{ℕ_discrete}
 use borrow.Author.Count.{below_more}
@@ -9,17 +9,13 @@ use lib.ListN.{length, get_or, set, replicate, length-set, length-replicate}
 use lib.Seq.{get_or-set_same, get_or-set_other}
 use Rattle.limits.specs.Limits.{row, all_cells, place}
 use Rattle.rules.specs.Cells.{cell}
+use Rattle.cutting.proofs.Rows.{zeros}
 use Rattle.cutting.specs.Rows.{none, cut_by, veil_by, Veil, Read}
 
 -- ---- each lane of the veil is 0 or none
-clear : (n k : ℕ) → ◌≡◌ {A = ℕ} (get_or (replicate n 0) k 0) 0
-clear zero k = refl
-clear (suc n) zero = refl
-clear (suc n) (suc k) = clear n k
-
 -- a new table
 pub veil_new : Veil (replicate all_cells 0)
-veil_new = record { size = length-replicate {0} {A = ℕ} all_cells 0; at = λ k h. absurd (h (clear all_cells k)) }
+veil_new = record { size = length-replicate {0} {A = ℕ} all_cells 0; at = λ k h. absurd (h (zeros all_cells k)) }
 
 veil_set : {veil : List ℕ} {u : ℕ} → Veil veil → (k : ℕ) → k < length veil → (¬ (u ≡ 0) → u ≡ none) →
     Veil (set veil k u)

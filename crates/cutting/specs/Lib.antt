@@ -6,8 +6,6 @@ pub mod Answer
 -- ---- and that nothing else fits
 pub mod Unique
 -- ---- the search's own: what its functions promise each other
--- what a test tells of a statement
-pub mod Tells
 -- the readings, the rows, the tables line by line
 pub mod Rows
 -- the set of pairs as it grows

@@ -97,10 +97,6 @@ pub record Tracing (cuts veil val left right : List ℕ) (n : ℕ) (pairs : List
   pub traced : Traced (Cut cuts) (λ a b. cell val a b < none) (choice_of none one (cell val) road) m (Ahead i j)
       (marked pairs)
 
--- the cells below k are 0
-pub record Cleared (pairs : List ℕ) (k : ℕ) : Type 0 where
-  pub at : (c : ℕ) → c < k → get_or pairs c 0 ≡ 0
-
 -- the set of the whole range alone
 pub record Started (pairs : List ℕ) (n : ℕ) : Type 0 where
   pub ticks : Ticks pairs

@@ -7,7 +7,7 @@ ghost use Rattle.limits.specs.Limits.{row, all_cells};
 ghost use Rattle.cutting.specs.Rows.{Veil, Reach, Laned};
 
 use crate::cells::{cell, put};
-use crate::lanes::{NONE, low, sum};
+use crate::lanes::NONE;
 use limits::ROW;
 
 // The cheapest step from b to any corner, by the costs g of the roads on from there.
@@ -16,10 +16,8 @@ fn reach(val: &[u8], g: &[u8], b: usize) -> u8
     ensures { Reach val.now g.now b result }
 {
     let mut m = NONE;
-    let mut c = 0;
-    while c < ROW {
-        m = low(m, sum(cell(val, b, c), g[c]));
-        c += 1;
+    for c in 0..ROW {
+        m = m.min(cell(val, b, c).saturating_add(g[c]));
     }
     m
 }
@@ -34,10 +32,8 @@ pub fn lane(veil: &[u8], val: &[u8], col: &mut [u8], x: usize, j: usize)
     let end = cell(veil, j, x);
     g[j] = end;
     put(col, j, x, end);
-    let mut b = j;
-    while b > x {
-        b -= 1;
-        let v = sum(reach(val, &g, b), cell(veil, b, x));
+    for b in (x..j).rev() {
+        let v = reach(val, &g, b).saturating_add(cell(veil, b, x));
         g[b] = v;
         put(col, b, x, v);
     }

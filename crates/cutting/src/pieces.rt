@@ -12,7 +12,6 @@ ghost use Rattle.cutting.specs.Tracing.{LowestFit, EveryIn, Lanes, Chosen};
 
 use crate::again::lane;
 use crate::cells::cell;
-use crate::lanes::sum;
 use limits::ROW;
 
 // The corner after c on the road of x to t: the smallest whose step and rest cost what the road costs; t where no
@@ -23,14 +22,9 @@ fn seek(val: &[u8], side: &[u8], x: usize, t: usize, c: usize) -> usize
         c t result }
 {
     let target = cell(side, c, x);
-    let mut b = c + 1;
-    while b < t {
-        if sum(cell(val, c, b), cell(side, b, x)) == target {
-            return b;
-        }
-        b += 1;
-    }
-    t
+    (c + 1..t)
+        .find(|&b| cell(val, c, b).saturating_add(cell(side, b, x)) == target)
+        .unwrap_or(t)
 }
 
 // The corner after c of the piece with the centre x and the last corner j: its road goes to x, and from x on to j.
@@ -39,9 +33,10 @@ pub fn next(val: &[u8], left: &[u8], col: &[u8], x: usize, j: usize, c: usize) -
     ensures { Next val.now left.now col.now x j c result }
 {
     if c < x {
-        return seek(val, left, x, x, c);
+        seek(val, left, x, x, c)
+    } else {
+        seek(val, col, x, j, c)
     }
-    seek(val, col, x, j, c)
 }
 
 // Whether the road of x from i to j comes before that of y: by the first corner where they differ.
@@ -68,7 +63,10 @@ fn serves(val: &[u8], left: &[u8], right: &[u8], i: usize, j: usize, x: usize) -
         (j < row) × (x ≤ j) × (i ≤ j) }
     ensures { result ≡ fits_in val.now left.now right.now i j x }
 {
-    sum(sum(cell(left, i, x), cell(right, j, x)), 1) == cell(val, i, j)
+    cell(left, i, x)
+        .saturating_add(cell(right, j, x))
+        .saturating_add(1)
+        == cell(val, i, j)
 }
 
 // The lowest centre that serves; j where none before it does.
@@ -77,14 +75,9 @@ fn lowest(val: &[u8], left: &[u8], right: &[u8], i: usize, j: usize) -> usize
         (j < row) × (i ≤ j) }
     ensures { LowestFit val.now left.now right.now i j result }
 {
-    let mut x = i;
-    while x < j {
-        if serves(val, left, right, i, j, x) {
-            return x;
-        }
-        x += 1;
-    }
-    j
+    (i..j)
+        .find(|&x| serves(val, left, right, i, j, x))
+        .unwrap_or(j)
 }
 
 // Whether the centre x takes every corner from i to j: no road comes before such a road.
@@ -92,14 +85,7 @@ fn every(val: &[u8], left: &[u8], col: &[u8], i: usize, j: usize, x: usize) -> b
     requires { Routes val.now left.now col.now j × (x ≤ j) × (i ≤ j) }
     ensures { result ≡ true → EveryIn val.now left.now col.now j x i }
 {
-    let mut c = i;
-    while c < j {
-        if next(val, left, col, x, j, c) != c + 1 {
-            return false;
-        }
-        c += 1;
-    }
-    true
+    (i..j).all(|c| next(val, left, col, x, j, c) == c + 1)
 }
 
 // Of the centre best (ROW where there is none yet) and the centre x, the one with the earlier road.
@@ -135,10 +121,8 @@ fn pick(val: &[u8], left: &[u8], right: &[u8], col: &[u8], i: usize, j: usize) -
     ensures { result ≡ pick_in val.now left.now right.now col.now i j }
 {
     let mut best = ROW;
-    let mut x = i;
-    while x < j + 1 {
+    for x in i..j + 1 {
         best = choose(val, left, right, col, i, j, best, x);
-        x += 1;
     }
     best
 }
@@ -182,10 +166,8 @@ fn all_ready(
     ensures { Lanes veil.now val.now left.now right.now col.new i j
         (j + 1) }
 {
-    let mut x = from;
-    while x < j + 1 {
+    for x in from..j + 1 {
         ready(veil, val, left, right, col, i, j, x);
-        x += 1;
     }
 }
 

@@ -9,21 +9,19 @@ ghost use Rattle.std.specs.Prelude.{◌≡◌, ◌+◌, ◌<◌, ◌≤◌, leng
 ghost use Rattle.limits.specs.Limits.{row, all_cells};
 ghost use Rattle.cutting.specs.Rows.{Veil};
 ghost use Rattle.cutting.specs.Tracing.{Routes, rest_in, Ticks, Ticked, Marked};
-ghost use Rattle.cutting.specs.Tracing.{Traceable, Goes, Cleared, Started, Solvable, Draws};
+ghost use Rattle.cutting.specs.Tracing.{Traceable, Goes, Started, Solvable, Draws};
 
 use crate::cells::{cell, put};
 use crate::pieces::{centre, next};
-use limits::ALL_CELLS;
 
 // The pair c d comes into the set, where it is no side.
 fn tick(pairs: &mut [u8], c: usize, d: usize)
     requires { Ticks pairs.old × (c < d) × (d < row) }
     ensures { Ticked pairs.old pairs.new c d }
 {
-    if d <= c + 1 {
-        return;
+    if d > c + 1 {
+        put(pairs, c, d, 1);
     }
-    put(pairs, c, d, 1);
 }
 
 // The lines of the piece with the centre x on the line i j.
@@ -78,10 +76,8 @@ fn trace_column(
     ensures { Goes veil.now val.now left.now right.now pairs.old
         row (j + 1) pairs.new row j }
 {
-    let mut i = 0;
-    while i < j {
+    for i in 0..j {
         visit(veil, val, left, right, col, i, j, pairs);
-        i += 1;
     }
 }
 
@@ -100,31 +96,17 @@ fn trace_all(
     ensures { Goes veil.now val.now left.now right.now pairs.old
         row n pairs.new row 0 }
 {
-    let mut j = n;
-    while j > 0 {
-        j -= 1;
+    for j in (0..n).rev() {
         trace_column(veil, val, left, right, col, j, pairs);
     }
 }
 
-// No pair is in the set.
-fn clear(pairs: &mut [u8])
-    requires { length pairs.old ≡ all_cells }
-    ensures { Cleared pairs.new all_cells }
-{
-    let mut k = 0;
-    while k < ALL_CELLS {
-        pairs[k] = 0;
-        k += 1;
-    }
-}
-
-// The whole range alone.
+// No pair is in the set but the whole range.
 fn start(pairs: &mut [u8], n: usize)
     requires { (length pairs.old ≡ all_cells) × (3 ≤ n) × (n ≤ row) }
     ensures { Started pairs.new n }
 {
-    clear(pairs);
+    pairs.fill(0);
     put(pairs, 0, n - 1, 1);
 }
 

@@ -2,7 +2,7 @@
 use mathlib.Core.Path.{refl}
 use lib.ListN.{length-set}
 use native.Mathlib.Omega.{arith}
-use Rattle.cutting.proofs.Rows.{blank}
+use Rattle.cutting.proofs.Rows.{sum_is, blank}
 use Rattle.cutting.proofs.Relaid.{laning_none, laning_more, laning_at, laning_end}
 use Rattle.cutting.proofs.again.lane.Goals as goal
 
@@ -45,7 +45,7 @@ loop-b-preserved c =
       simp length-set c.loop-b.invariant.3,
       laning_more pre.0 (omega arith) (omega arith) pre.4 c.loop-b.invariant.2 c.loop-b.invariant.3
           (laning_at (omega arith) c.loop-b.invariant.4) c.reach.ensures
-          c.cell.ensures c.sum-v.ensures c.put-in-loop-b.ensures,
+          c.cell.ensures (sum_is _ _ c.saturating_add-v.ensures) c.put-in-loop-b.ensures,
     )
 
 pub shape_of-col : goal.shape_of-col

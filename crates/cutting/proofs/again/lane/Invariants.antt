@@ -10,6 +10,3 @@ abbrev pub invariant-loop-b : goal.invariant-loop-b
 invariant-loop-b l =
     (l.x ≤ l.b) × (l.b ≤ l.j) × (length l.col ≡ all_cells) × (length l.g ≡ row) ×
     Laning l.veil l.val l.initial.col l.col l.g l.x l.j l.b
-
-abbrev pub decreases-loop-b : goal.decreases-loop-b
-decreases-loop-b l = l.b

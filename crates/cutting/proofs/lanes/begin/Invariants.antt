@@ -1,6 +1,6 @@
 -- `lanes::begin`: the lanes below x are the veil's.
 use mathlib.Core.Path.{◌≡◌}
-use Prim.Native.Nat.{◌≤◌, ◌-◌}
+use Prim.Native.Nat.{◌≤◌}
 use lib.ListN.{length}
 use Rattle.limits.specs.Limits.{row, all_cells}
 use Rattle.cutting.proofs.Rows.{Begins}
@@ -8,6 +8,3 @@ use Rattle.cutting.proofs.lanes.begin.Given as goal
 
 abbrev pub invariant-loop-x : goal.invariant-loop-x
 invariant-loop-x l = (l.x ≤ row) × (length l.col ≡ all_cells) × Begins l.veil l.col l.j l.x
-
-abbrev pub decreases-loop-x : goal.decreases-loop-x
-decreases-loop-x l = row - l.x

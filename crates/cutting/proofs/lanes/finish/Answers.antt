@@ -1,6 +1,6 @@
 -- `lanes::finish`: the lanes below x are the row's.
 use native.Mathlib.Omega.{arith}
-use Rattle.cutting.proofs.Rows.{finishes_none, finishes_more, finishes_end}
+use Rattle.cutting.proofs.Rows.{sum_is, finishes_none, finishes_more, finishes_end}
 use Rattle.cutting.proofs.lanes.finish.Goals as goal
 
 pub loop-x-init : goal.loop-x-init
@@ -13,8 +13,8 @@ loop-x-preserved c =
       omega (arith, c.put.auto.t, c.loop-x.invariant.1),
       finishes_more c.loop-x.invariant.2 c.loop-x.invariant.1 pre.3.0 pre.3.1
           c.loop-x-test.true
-          c.cell.ensures c.sum.ensures c.low-whole.ensures
-          c.cell-in-loop-x.ensures c.sum-in-loop-x.ensures c.put.ensures,
+          c.cell.ensures (sum_is _ _ c.saturating_add.ensures) c.min-whole.ensures
+          c.cell-in-loop-x.ensures (sum_is _ _ c.saturating_add-in-loop-x.ensures) c.put.ensures,
     )
 
 pub returns : goal.returns

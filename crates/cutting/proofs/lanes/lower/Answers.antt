@@ -1,7 +1,7 @@
 -- `lanes::lower`: the lanes below x are lowered.
 use lib.ListN.{length-set}
 use native.Mathlib.Omega.{arith}
-use Rattle.cutting.proofs.Rows.{lows_none, lows_more, lows_end}
+use Rattle.cutting.proofs.Rows.{sum_is, lows_none, lows_more, lows_end}
 use Rattle.cutting.proofs.lanes.lower.Goals as goal
 
 pub loop-x-init : goal.loop-x-init
@@ -12,7 +12,7 @@ loop-x-preserved c =
     let loop = c.loop-x in (
       omega arith,
       simp length-set (omega arith),
-      lows_more loop.invariant.2 (omega arith) c.cell.ensures c.sum.ensures c.low.ensures,
+      lows_more loop.invariant.2 (omega arith) c.cell.ensures (sum_is _ _ c.saturating_add.ensures) c.min.ensures,
     )
 
 pub returns : goal.returns

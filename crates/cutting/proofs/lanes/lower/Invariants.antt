@@ -1,6 +1,6 @@
 -- `lanes::lower`: the lanes below x are lowered.
 use mathlib.Core.Path.{◌≡◌}
-use Prim.Native.Nat.{◌≤◌, ◌-◌}
+use Prim.Native.Nat.{◌≤◌}
 use lib.ListN.{length}
 use Rattle.limits.specs.Limits.{row}
 use Rattle.cutting.proofs.Rows.{Lows}
@@ -8,6 +8,3 @@ use Rattle.cutting.proofs.lanes.lower.Given as goal
 
 abbrev pub invariant-loop-x : goal.invariant-loop-x
 invariant-loop-x l = (l.x ≤ row) × (length l.first ≡ row) × Lows l.initial.first l.first l.col l.b l.v l.x
-
-abbrev pub decreases-loop-x : goal.decreases-loop-x
-decreases-loop-x l = row - l.x

@@ -8,6 +8,3 @@ use Rattle.cutting.proofs.lines.column.Given as goal
 abbrev pub invariant-loop-i : goal.invariant-loop-i
 invariant-loop-i l =
     (l.i ≤ l.j) × (length l.col ≡ length l.initial.col) × Filling l.cuts l.veil l.val l.left l.right l.col l.n l.i l.j
-
-abbrev pub decreases-loop-i : goal.decreases-loop-i
-decreases-loop-i l = l.i

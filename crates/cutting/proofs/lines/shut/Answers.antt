@@ -9,9 +9,9 @@ returns c =
       mid = c.through-m.result;
       least = c.through-m.ensures;
       is =
-          shut_is _ c.sum-a.result c.sum-b.result _ _ c.cell.result
-          c.cell-2.result _ _ _ _ _ c.sum.ensures c.low-2.ensures
-          c.low.ensures (omega (arith, c.sum-a.ensures))
-          (omega (arith, c.sum-b.ensures)) (omega (arith, c.cell.ensures))
+          shut_is _ c.saturating_add-a.result c.saturating_add-b.result _ _ c.cell.result
+          c.cell-2.result _ _ _ _ _ (omega (arith, c.saturating_add.ensures)) c.min-2.ensures
+          c.min.ensures (omega (arith, c.saturating_add-a.ensures))
+          (omega (arith, c.saturating_add-b.ensures)) (omega (arith, c.cell.ensures))
           (omega (arith, c.cell-2.ensures));
     }

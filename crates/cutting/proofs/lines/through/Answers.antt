@@ -12,8 +12,8 @@ loop-x-preserved c =
       omega arith,
       omega arith,
       least_more loop.invariant.2 (omega arith)
-          (omega (arith, c.sum.ensures, c.cell.ensures, c.cell-in-loop-x.ensures))
-          c.low-m.ensures,
+          (omega (arith, c.saturating_add.ensures, c.cell.ensures, c.cell-in-loop-x.ensures))
+          c.min-m.ensures,
     )
 
 pub returns : goal.returns

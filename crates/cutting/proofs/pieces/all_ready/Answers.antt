@@ -8,8 +8,8 @@ loop-x-init c =
     let pre = c.requires in
     (omega arith, omega arith, pre.routes.0.col_size, pre.lanes)
 
-pub overflow_add-j : goal.overflow_add-j
-overflow_add-j c = omega (arith, c.requires.routes.0.last)
+pub overflow_add-x-end : goal.overflow_add-x-end
+overflow_add-x-end c = omega (arith, c.requires.routes.0.last)
 
 pub ready-requires : goal.ready-requires
 ready-requires c =
@@ -28,11 +28,6 @@ ready-requires c =
       );
       lanes = c.loop-x.invariant.3;
     }
-
-pub overflow_add-x : goal.overflow_add-x
-overflow_add-x c =
-    let pre = c.requires in
-    omega (arith, pre.routes.0.last)
 
 pub loop-x-preserved : goal.loop-x-preserved
 loop-x-preserved c =

@@ -1,22 +1,16 @@
--- `pieces::every`: every corner before c is taken.
-use mathlib.Core.Path.{sym}
-use native.Mathlib.Omega.{arith}
-use borrow.Author.Count.{below_more}
-use Rattle.cutting.proofs.Values.{clash}
+-- `pieces::every`: what holds of all in the range.
+use Prim.Native.Nat.{suc}
+use mathlib.Core.Path.{◌≡◌, refl}
+use Rattle.std.proofs.Common.{tests, arith}
+use Rattle.std.proofs.lemmas.Iterator.{cases_from_all, YieldsList-from_range}
+use Rattle.cutting.specs.Tracing.{next_in}
+use Rattle.cutting.proofs.Corners.{every_found}
 use Rattle.cutting.proofs.pieces.every.Goals as goal
 
-pub loop-c-init : goal.loop-c-init
-loop-c-init c = (omega arith, omega arith, λ a h k. absurd (omega arith))
-
-pub returns-then-next-c : goal.returns-then-next-c
-returns-then-next-c c = λ e. clash (sym e)
-
-pub loop-c-preserved : goal.loop-c-preserved
-loop-c-preserved c = (
-  omega arith,
-  omega arith,
-  below_more _ _ c.loop-c.invariant.2 (λ _. omega (arith, c.next.ensures.is)),
-)
-
 pub returns : goal.returns
-returns c = λ e a ia aj. c.loop-c.invariant.2 a (omega arith) ia
+returns c =
+    let next = next_in c.args.val.now c.args.left.now c.args.col.now c.args.x c.args.j in
+    every_found next c.args.i c.args.j c.all.result _
+    (cases_from_all _ _ _ (λ a. next a ≡ suc a) (λ a. next a ≡ suc a → ⊥) c.all.ensures.ran
+    (YieldsList-from_range c.args.i c.args.j _ refl refl) (λ x q k. grind (arith, tests))
+    (λ x q k. grind (arith, tests)))

@@ -1,33 +1,19 @@
--- `pieces::lowest`: no centre before x fits.
-use mathlib.Core.Path.{sym, ◌∙◌}
+-- `pieces::lowest`: what is found fits, and what is passed does not.
+use mathlib.Core.Path.{◌≡◌}
+use mathlib.Core.Bool.{true, false}
 use native.Mathlib.Omega.{arith}
-use borrow.Author.Count.{below_more}
+use Rattle.std.proofs.Common.{rules, tests}
+use Rattle.std.proofs.lemmas.Iterator.{first_from_Range}
+use Rattle.cutting.specs.Tracing.{fits_in}
+use Rattle.cutting.proofs.Corners.{lowest_found}
 use Rattle.cutting.proofs.pieces.lowest.Goals as goal
-
-pub loop-x-init : goal.loop-x-init
-loop-x-init c = (omega arith, omega arith, λ y h k. absurd (omega arith))
-
-pub returns-then-serves : goal.returns-then-serves
-returns-then-serves c =
-    record {
-      from = omega arith;
-      to = omega arith;
-      before = λ y iy yx. c.loop-x.invariant.2 y yx iy;
-      hit = λ h. sym c.serves.ensures ∙ c.if-serves.true;
-    }
-
-pub loop-x-preserved : goal.loop-x-preserved
-loop-x-preserved c = (
-  omega arith,
-  omega arith,
-  below_more _ _ c.loop-x.invariant.2 (λ _. sym c.serves.ensures ∙ c.if-serves.false),
-)
 
 pub returns : goal.returns
 returns c =
-    record {
-      from = omega arith;
-      to = omega arith;
-      before = λ y iy yx. c.loop-x.invariant.2 y (omega arith) iy;
-      hit = λ h. absurd (omega arith);
-    }
+    let val = c.args.val.now in
+    let left = c.args.left.now in
+    let right = c.args.right.now in
+    lowest_found val left right c.args.i c.args.j c.find.result (omega arith) c.unwrap_or.ensures
+    (first_from_Range _ _ _ _ (λ y. fits_in val left right c.args.i c.args.j y ≡ true)
+    (λ y. fits_in val left right c.args.i c.args.j y ≡ false) c.find.ensures.ran
+    (λ x q k. search (rules, tests)) (λ x q k. search (rules, tests)))

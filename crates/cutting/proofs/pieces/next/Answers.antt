@@ -6,7 +6,7 @@ use Rattle.cutting.proofs.pieces.next.Goals as goal
 pub returns-then-c-x : goal.returns-then-c-x
 returns-then-c-x c = found_left c.requires.1 c.if-c-x.true c.seek.ensures
 
-pub returns : goal.returns
-returns c =
+pub returns-else-c-x : goal.returns-else-c-x
+returns-else-c-x c =
     let pre = c.requires in
-    found_right pre.1 pre.2 (omega arith) c.seek-2.ensures
+    found_right pre.1 pre.2 (omega arith) c.seek-else-c-x.ensures

@@ -11,6 +11,3 @@ abbrev pub invariant-loop-x : goal.invariant-loop-x
 invariant-loop-x l =
     (l.i ≤ l.x) × (l.x ≤ l.j + 1) ×
     (l.best ≡ pick_from none one (cell l.val) (cell l.left) (cell l.col) (cell l.right l.j) l.i l.j (l.x - l.i))
-
-abbrev pub decreases-loop-x : goal.decreases-loop-x
-decreases-loop-x l = l.j + 1 - l.x

@@ -1,50 +1,18 @@
--- `pieces::seek`: no corner before b costs what is looked for.
+-- `pieces::seek`: no corner before the one that is found costs what is looked for.
+use mathlib.Core.Path.{◌≡◌}
 use native.Mathlib.Omega.{arith}
-use borrow.Author.Count.{below_more}
+use Rattle.std.proofs.Common.{rules, tests}
+use Rattle.std.proofs.lemmas.Iterator.{first_from_Range}
+use Rattle.rules.specs.Columns.{costs}
+use Rattle.rules.specs.Cells.{cell}
+use Rattle.cutting.specs.Rows.{none}
+use Rattle.cutting.proofs.Corners.{sought_found}
 use Rattle.cutting.proofs.pieces.seek.Goals as goal
-
-pub loop-b-init : goal.loop-b-init
-loop-b-init c = (omega arith, omega arith, λ k p q. absurd (omega arith))
-
-pub returns-then-sum-target : goal.returns-then-sum-target
-returns-then-sum-target c =
-    record {
-      from = c.loop-b.invariant.0;
-      to = omega arith;
-      before = c.loop-b.invariant.2;
-      hit =
-          λ h.
-          omega (
-            arith,
-            c.if-sum-target.true,
-            c.sum.ensures,
-            c.cell-target.ensures,
-            c.cell.ensures,
-            c.cell-in-loop-b.ensures,
-          );
-    }
-
-pub loop-b-preserved : goal.loop-b-preserved
-loop-b-preserved c = (
-  omega arith,
-  omega arith,
-  below_more _ _ c.loop-b.invariant.2
-      (λ h e.
-      c.if-sum-target.false
-      (omega (
-        arith,
-        c.sum.ensures,
-        c.cell-target.ensures,
-        c.cell.ensures,
-        c.cell-in-loop-b.ensures,
-      ))),
-)
 
 pub returns : goal.returns
 returns c =
-    record {
-      from = omega arith;
-      to = omega arith;
-      before = λ k p. c.loop-b.invariant.2 k (omega arith);
-      hit = λ h. absurd (omega arith);
-    }
+    let f = costs none (cell c.args.val.now) (cell c.args.side.now) c.args.x c.args.c in
+    let v = cell c.args.side.now c.args.c c.args.x in
+    sought_found f v c.args.c c.args.t c.find.result (omega arith) c.unwrap_or.ensures
+    (first_from_Range _ _ _ _ (λ k. f k ≡ v) (λ k. ¬ (f k ≡ v)) c.find.ensures.ran
+    (λ x q k. search (rules, tests)) (λ x q k. search (rules, tests)))

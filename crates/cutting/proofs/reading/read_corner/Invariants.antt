@@ -1,6 +1,6 @@
 -- `reading::read_corner`: the corners below x have been read with y.
 use mathlib.Core.Path.{◌≡◌}
-use Prim.Native.Nat.{◌≤◌, ◌-◌}
+use Prim.Native.Nat.{◌≤◌}
 use lib.ListN.{length}
 use Rattle.limits.specs.Limits.{all_cells}
 use Rattle.cutting.proofs.Readings.{Reading}
@@ -10,6 +10,3 @@ abbrev pub invariant-loop-x : goal.invariant-loop-x
 invariant-loop-x l =
     (l.x ≤ l.n) × (length l.cuts ≡ all_cells) × (length l.veil ≡ all_cells) ×
     Reading l.first l.second l.cuts l.veil l.n l.y l.x
-
-abbrev pub decreases-loop-x : goal.decreases-loop-x
-decreases-loop-x l = l.n - l.x

@@ -10,6 +10,3 @@ abbrev pub invariant-loop-j : goal.invariant-loop-j
 invariant-loop-j l =
     (l.j ≤ l.n) × (length l.col ≡ all_cells) × (length l.pairs ≡ length l.initial.pairs) ×
     Goes l.veil l.val l.left l.right l.initial.pairs row l.n l.pairs row l.j
-
-abbrev pub decreases-loop-j : goal.decreases-loop-j
-decreases-loop-j l = l.j

@@ -1,6 +1,6 @@
 -- `tracing::trace_column`: the ranges to j from below i have been met.
 use mathlib.Core.Path.{◌≡◌}
-use Prim.Native.Nat.{◌+◌, ◌-◌, ◌≤◌}
+use Prim.Native.Nat.{◌+◌, ◌≤◌}
 use lib.ListN.{length}
 use Rattle.limits.specs.Limits.{row, all_cells}
 use Rattle.cutting.specs.Tracing.{Goes}
@@ -10,6 +10,3 @@ abbrev pub invariant-loop-i : goal.invariant-loop-i
 invariant-loop-i l =
     (l.i ≤ l.j) × (length l.col ≡ all_cells) × (length l.pairs ≡ length l.initial.pairs) ×
     Goes l.veil l.val l.left l.right l.initial.pairs row (l.j + 1) l.pairs l.i l.j
-
-abbrev pub decreases-loop-i : goal.decreases-loop-i
-decreases-loop-i l = l.j - l.i
