@@ -8,11 +8,11 @@ use mathlib.Core.List.{List, [], ◌∷◌}
 use Prim.Native.Nat.{ℕ, suc, ◌+◌, ◌-◌, ◌≤◌}
 use native.Mathlib.Numerals.{add-one}
 use lib.ListN.{length, get_or, take, drop}
-use Rattle.checker.specs.Checks.{verdict, Entry, corner_lists, Sight, FirstFailed, of_pieces}
+use Rattle.std.specs.Prelude.{Err}
+use Rattle.checker.specs.Checks.{says, verdict, Entry, corner_lists, Sight, FirstFailed, of_pieces}
 use Rattle.checker.specs.Parts.{MarksPiece, Marks, MarksAll, fits, all_fit, FitsAll}
 use Rattle.checker.specs.Parts.{piece, in_cells, FirstFault}
-use Rattle.checker.specs.declared.Checked.{Checked}
-use Rattle.checker.specs.declared.Checked.TheVariants.{Accepted}
+use Rattle.checker.specs.declared.Fault.{Fault}
 use Rattle.checker.specs.declared.flat.Verdict.{Verdict}
 use Rattle.checker.proofs.Reading.{Walk, Next, next_part, walk_more, walk_end}
 use Rattle.checker.proofs.AtFault.{passed, stopped}
@@ -78,28 +78,31 @@ NoFault first second from l rest =
 
 module _ (first second : List ℕ) {bytes : List ℕ} {at from : ℕ}
     (w : Walk bytes (NoFault (in_cells first) (in_cells second) from) at) where
-  module _ (n : Next w) {k c : ℕ} (q : k ≡ get_or bytes at 0) (z : c ≡ get_or bytes (at + 1) 0) (r : Checked)
-      (h : FirstFailed (of_pieces (in_cells first) (in_cells second) from (piece c (part bytes at k) ∷ []))
-      (verdict r)) where
-    here_said : FirstFailed (of_pieces (in_cells first) (in_cells second) from (n.e ∷ [])) (verdict r)
-    here_said =
-        subst
-        (λ (e : Entry). FirstFailed (of_pieces (in_cells first) (in_cells second) from (e ∷ [])) (verdict r))
-        (λ i. piece ((z ∙ n.at_hand.centre) i) (next_part n q i)) h
+  module _ (n : Next w) {k c : ℕ} (q : k ≡ get_or bytes at 0) (z : c ≡ get_or bytes (at + 1) 0) where
+    abbrev Said : Entry → Verdict → Type 0
+    Said e v = FirstFailed (of_pieces (in_cells first) (in_cells second) from (e ∷ [])) v
 
-    pub fault_found : ¬ (r ≡ Accepted) → FirstFault first second bytes (verdict r)
-    fault_found f = (
+    here_said : {v : Verdict} → Said (piece c (part bytes at k)) v → Said n.e v
+    here_said {v} h = subst (λ (e : Entry). Said e v) (λ i. piece ((z ∙ n.at_hand.centre) i) (next_part n q i)) h
+
+    pub fault_found : (f : Fault) →
+        FirstFailed (of_pieces (in_cells first) (in_cells second) from (piece c (part bytes at k) ∷ []))
+        (verdict (Err f)) →
+        FirstFault first second bytes (verdict (Err f))
+    fault_found f h = (
       w.entries,
       w.whole,
-      subst (NoFault (in_cells first) (in_cells second) from w.entries) n.is w.holds (verdict r)
-          (stopped (in_cells first) (in_cells second) from n.e n.more r f here_said),
+      subst (NoFault (in_cells first) (in_cells second) from w.entries) n.is w.holds (verdict (Err f))
+          (stopped (in_cells first) (in_cells second) from n.e n.more f (here_said h)),
     )
 
-    pub fault_more : r ≡ Accepted → Walk bytes (NoFault (in_cells first) (in_cells second) (from + 1)) (at + 2 + k)
-    fault_more f =
+    pub fault_more :
+        FirstFailed (of_pieces (in_cells first) (in_cells second) from (piece c (part bytes at k) ∷ [])) (says 0) →
+        Walk bytes (NoFault (in_cells first) (in_cells second) (from + 1)) (at + 2 + k)
+    fault_more h =
         subst (λ (m : ℕ). Walk bytes (NoFault (in_cells first) (in_cells second) m) (at + 2 + k)) (sym (add-one from))
         (walk_more n q (NoFault (in_cells first) (in_cells second) (suc from))
-        (λ l g v m. g v (passed (in_cells first) (in_cells second) from n.e n.more r f here_said v m)))
+        (λ l g v m. g v (passed (in_cells first) (in_cells second) from n.e n.more (here_said h) v m)))
 
-  pub fault_none : length bytes ≤ at → FirstFault first second bytes (verdict Accepted)
-  fault_none le = (w.entries, w.whole, walk_end w le (verdict Accepted) refl)
+  pub fault_none : length bytes ≤ at → FirstFault first second bytes (says 0)
+  fault_none le = (w.entries, w.whole, walk_end w le (says 0) refl)

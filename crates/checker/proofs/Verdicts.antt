@@ -1,8 +1,8 @@
 -- What is said in the end: of the pair, of the bytes by the cells of two drawings, and so of the bytes by their sight.
 use mathlib.Core.Path.{◌≡◌, refl, sym, ◌∙◌, subst}
 use mathlib.Core.Bool.{Bool, true, false}
-use mathlib.Core.Logic.{◌⊎◌, inl, inr}
-use mathlib.Core.List.{List, [], ◌∷◌}
+use mathlib.Core.Logic.{inl, inr}
+use mathlib.Core.List.{List}
 use Prim.Native.Nat.{ℕ, ◌≤◌}
 use native.Mathlib.Omega.{arith}
 use lib.IntN.{ℤ}
@@ -11,11 +11,9 @@ use Rattle.limits.specs.Limits.{most_corners, all_cells}
 use Rattle.outline.specs.Drawing.{corners}
 use Rattle.outline.specs.Tells.{if_yes, if_no}
 use Rattle.drawing.specs.Sight.{Seen}
-use Rattle.pair.specs.Pair.{lines, Checks, FirstTold, SecondTold}
+use Rattle.pair.specs.Pair.{Checks, FirstTold, SecondTold}
 use Rattle.pair.specs.Passing.{SoundPair, equally_many}
 use Rattle.pair.proofs.Passing.{pair_passes}
-use Rattle.rules.specs.Lists.{In}
-use Rattle.rules.specs.Refusals.{among}
 use Rattle.checker.specs.Checks.{says, IsList, sight_in, FirstFailed, of_pieces}
 use Rattle.checker.specs.Checks.{OfBytes, ChecksList}
 use Rattle.checker.specs.Unique.{laid_one}
@@ -53,14 +51,6 @@ module _ {n : ℕ} {bytes : List ℕ} (first second : List ℕ) {r : Bool} (l : 
 
 -- ---- the pair
 module _ {first second : List ℤ} {number : ℕ} (checks : Checks first second number) where
-  -- a number that is not 0 is one of its lines'
-  pub refusal : ¬ (number ≡ 0) → In number (1 ∷ 3 ∷ 4 ∷ 5 ∷ 6 ∷ 7 ∷ 8 ∷ [])
-  refusal z = go (among (lines first second) number checks.numbered)
-    where
-      go : (number ≡ 0) ⊎ In number (1 ∷ 3 ∷ 4 ∷ 5 ∷ 6 ∷ 7 ∷ 8 ∷ []) → In number (1 ∷ 3 ∷ 4 ∷ 5 ∷ 6 ∷ 7 ∷ 8 ∷ [])
-      go (inl e) = absurd (z e)
-      go (inr i) = i
-
   pub refused_pair : {bytes : List ℕ} {v : Verdict} → ¬ (number ≡ 0) → v ≡ says number →
       ChecksList first second bytes v
   refused_pair z e = record {

@@ -1,16 +1,16 @@
 -- What is said of a cutting that was made elsewhere: document 02, K4, sentence by sentence. To be believed, with what
 -- `pair` asks of two drawings, the two kinds of sight of `outline`, and pieces as `rules` has them.
-use Rattle.std.specs.Prelude.{◌≡◌, ◌⊎◌, ◌↔◌, List, [], ◌∷◌, ◌++◌, map, ℕ, suc, ◌≤◌, ◌<◌, ℤ, length}
+use Rattle.std.specs.Prelude.{◌≡◌, ◌⊎◌, ◌↔◌, List, [], ◌∷◌, ◌++◌, map, ℕ, suc, ◌≤◌, ◌<◌, ℤ, length, Result, Ok, Err, ⊤}
 use Rattle.outline.specs.Drawing as drawing
 use Rattle.outline.specs.Drawing.{Sees}
 use Rattle.outline.specs.InOrOn.{CentreSees}
-use Rattle.pair.specs.Pair.{Checks}
+use Rattle.pair.specs.Pair.{Checks, number as pair_number}
 use Rattle.pair.specs.declared.Which.{Which}
 use Rattle.pair.specs.declared.Which.TheVariants.{First, Second}
 use Rattle.rules.specs.Lists.{In, Distinct, Rising}
 use Rattle.rules.specs.Cutting.{Pairs, Uncrossed, Region, Near}
-use Rattle.checker.specs.declared.Checked.{Checked}
-use Rattle.checker.specs.declared.Checked.TheVariants as is
+use Rattle.checker.specs.declared.Fault.{Fault}
+use Rattle.checker.specs.declared.Fault.TheVariants as is
 use Rattle.checker.specs.declared.flat.Verdict.{Verdict}
 
 -- ---- 02's number for each case, with 23 and 24 the "place from 0" and the drawing; zeros where a case has none
@@ -24,19 +24,13 @@ says k = record { number = k; drawing = 0; place = 0 }
 abbrev pub says_at : ℕ → ℕ → Which → Verdict
 says_at k place which = record { number = k; drawing = which_number which; place = place }
 
-abbrev pub verdict : Checked → Verdict
-verdict is.Accepted = says 0
-verdict is.Unlike = says 1
-verdict is.FirstOutOfRange = says 3
-verdict is.FirstNotSimple = says 4
-verdict is.FirstNotAnticlockwise = says 5
-verdict is.SecondOutOfRange = says 6
-verdict is.SecondNotSimple = says 7
-verdict is.SecondNotAnticlockwise = says 8
-verdict is.NoList = says 21
-verdict is.NoCutting = says 22
-verdict (is.Unseen place which) = says_at 23 place which
-verdict (is.Misses place which) = says_at 24 place which
+abbrev pub verdict : Result ⊤ Fault → Verdict
+verdict (Ok _) = says 0
+verdict (Err (is.Pair refusal)) = says (pair_number refusal)
+verdict (Err is.NoList) = says 21
+verdict (Err is.NoCutting) = says 22
+verdict (Err (is.Unseen place which)) = says_at 23 place which
+verdict (Err (is.Misses place which)) = says_at 24 place which
 
 -- ---- "a list in 01's layout, pieces in any order and any allowed centre"
 -- a piece of the list: its centre and its corners

@@ -1,18 +1,19 @@
 -- No second verdict is given of a pair and a list, and no second case: the bytes name one list of pieces, of what is
 -- asked in turn one thing fails first, and a verdict names its case.
-use Rattle.std.specs.Prelude.{◌≡◌, refl, cond, List, [], ◌∷◌, ◌++◌, ℕ, eqb, ℤ, length}
+use Rattle.std.specs.Prelude.{◌≡◌, refl, cond, List, [], ◌∷◌, ◌++◌, ℕ, eqb, ℤ, length, Result, Ok, Err, ⊤}
 use Rattle.std.proofs.Common.{sym, ap, ◌∙◌, subst, inl, inr, arith}
 use Rattle.std.proofs.Math.Logic.{by_cases}
 use Rattle.std.proofs.Math.Decide.{ℕ_discrete}
 use Rattle.outline.specs.Drawing.{corners}
 use Rattle.pair.proofs.Unique.{check_unique as number_unique}
+use Rattle.pair.specs.declared.Refusal.TheVariants as pair
 use Rattle.pair.specs.declared.Which.{Which}
 use Rattle.pair.specs.declared.Which.TheVariants.{First, Second}
 use Rattle.checker.specs.Checks.{which_number, says, verdict, Entry, laid, Sight, sight_in}
 use Rattle.checker.specs.Checks.{Asked, FirstFailed, of_list, OfBytes, ChecksList}
 use Rattle.checker.specs.Entries.{entry_is}
-use Rattle.checker.specs.declared.Checked.{Checked}
-use Rattle.checker.specs.declared.Checked.TheVariants as is
+use Rattle.checker.specs.declared.Fault.{Fault}
+use Rattle.checker.specs.declared.Fault.TheVariants as is
 use Rattle.checker.specs.declared.flat.Verdict.{Verdict}
 
 -- ---- one thing fails first
@@ -73,43 +74,43 @@ module _ (first second : List ℤ) (bytes : List ℕ) where
 abbrev which : ℕ → Which
 which k = cond (eqb k 1) First Second
 
-abbrev named : Verdict → Checked
+abbrev named : Verdict → Result ⊤ Fault
 named v =
-    cond (eqb v.number 0) is.Accepted
-    (cond (eqb v.number 1) is.Unlike
-    (cond (eqb v.number 3) is.FirstOutOfRange
-    (cond (eqb v.number 4) is.FirstNotSimple
-    (cond (eqb v.number 5) is.FirstNotAnticlockwise
-    (cond (eqb v.number 6) is.SecondOutOfRange
-    (cond (eqb v.number 7) is.SecondNotSimple
-    (cond (eqb v.number 8) is.SecondNotAnticlockwise
-    (cond (eqb v.number 21) is.NoList
-    (cond (eqb v.number 22) is.NoCutting
-    (cond (eqb v.number 23) (is.Unseen v.place (which v.drawing))
-    (is.Misses v.place (which v.drawing))))))))))))
+    cond (eqb v.number 0) (Ok tt)
+    (cond (eqb v.number 1) (Err (is.Pair pair.Unlike))
+    (cond (eqb v.number 3) (Err (is.Pair pair.FirstOutOfRange))
+    (cond (eqb v.number 4) (Err (is.Pair pair.FirstNotSimple))
+    (cond (eqb v.number 5) (Err (is.Pair pair.FirstNotAnticlockwise))
+    (cond (eqb v.number 6) (Err (is.Pair pair.SecondOutOfRange))
+    (cond (eqb v.number 7) (Err (is.Pair pair.SecondNotSimple))
+    (cond (eqb v.number 8) (Err (is.Pair pair.SecondNotAnticlockwise))
+    (cond (eqb v.number 21) (Err is.NoList)
+    (cond (eqb v.number 22) (Err is.NoCutting)
+    (cond (eqb v.number 23) (Err (is.Unseen v.place (which v.drawing)))
+    (Err (is.Misses v.place (which v.drawing)))))))))))))
 
 name_which : (w : Which) → which (which_number w) ≡ w
 name_which First = refl
 name_which Second = refl
 
-name : (r : Checked) → named (verdict r) ≡ r
-name is.Accepted = refl
-name is.Unlike = refl
-name is.FirstOutOfRange = refl
-name is.FirstNotSimple = refl
-name is.FirstNotAnticlockwise = refl
-name is.SecondOutOfRange = refl
-name is.SecondNotSimple = refl
-name is.SecondNotAnticlockwise = refl
-name is.NoList = refl
-name is.NoCutting = refl
-name (is.Unseen place w) = ap (is.Unseen place) (name_which w)
-name (is.Misses place w) = ap (is.Misses place) (name_which w)
+name : (r : Result ⊤ Fault) → named (verdict r) ≡ r
+name (Ok _) = refl
+name (Err (is.Pair pair.Unlike)) = refl
+name (Err (is.Pair pair.FirstOutOfRange)) = refl
+name (Err (is.Pair pair.FirstNotSimple)) = refl
+name (Err (is.Pair pair.FirstNotAnticlockwise)) = refl
+name (Err (is.Pair pair.SecondOutOfRange)) = refl
+name (Err (is.Pair pair.SecondNotSimple)) = refl
+name (Err (is.Pair pair.SecondNotAnticlockwise)) = refl
+name (Err is.NoList) = refl
+name (Err is.NoCutting) = refl
+name (Err (is.Unseen place w)) = ap (λ w. Err (is.Unseen place w)) (name_which w)
+name (Err (is.Misses place w)) = ap (λ w. Err (is.Misses place w)) (name_which w)
 
-pub verdict_one : (r s : Checked) → verdict r ≡ verdict s → r ≡ s
+pub verdict_one : (r s : Result ⊤ Fault) → verdict r ≡ verdict s → r ≡ s
 verdict_one r s e = sym (name r) ∙ ap named e ∙ name s
 
-pub checked_unique : (first second : List ℤ) (bytes : List ℕ) (r s : Checked) →
+pub checked_unique : (first second : List ℤ) (bytes : List ℕ) (r s : Result ⊤ Fault) →
     ChecksList first second bytes (verdict r) → ChecksList first second bytes (verdict s) → r ≡ s
 checked_unique first second bytes r s h k =
     verdict_one r s (check_unique first second bytes (verdict r) (verdict s) h k)

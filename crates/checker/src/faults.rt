@@ -7,7 +7,7 @@ ghost use Rattle.checker.specs.Checks.{verdict, LinesSeen, CentreSeesAll, FirstF
 ghost use Rattle.checker.specs.Parts.{Corners, Readable, Cells, each_step};
 ghost use Rattle.checker.specs.Parts.{strictly_sees, piece, in_cells, FirstFault};
 
-use crate::Checked;
+use crate::Fault;
 use crate::lines::{closing, line, wide};
 use pair::Which;
 
@@ -65,7 +65,13 @@ fn centre_sees(sight: &[u8], centre: usize, corners: &[u8]) -> bool
     true
 }
 
-fn fault(place: usize, first: &[u8], second: &[u8], centre: usize, corners: &[u8]) -> Checked
+fn fault(
+    place: usize,
+    first: &[u8],
+    second: &[u8],
+    centre: usize,
+    corners: &[u8],
+) -> Result<(), Fault>
     requires { Cells first.now × Cells second.now × (centre < row) × Corners corners.now }
     ensures { FirstFailed
         (of_pieces (in_cells first.now) (in_cells second.now) place
@@ -73,33 +79,33 @@ fn fault(place: usize, first: &[u8], second: &[u8], centre: usize, corners: &[u8
         (verdict result) }
 {
     if !lines_seen(first, corners) {
-        return Checked::Unseen {
+        return Err(Fault::Unseen {
             place: place,
             drawing: Which::First,
-        };
+        });
     }
     if !lines_seen(second, corners) {
-        return Checked::Unseen {
+        return Err(Fault::Unseen {
             place: place,
             drawing: Which::Second,
-        };
+        });
     }
     if !centre_sees(first, centre, corners) {
-        return Checked::Misses {
+        return Err(Fault::Misses {
             place: place,
             drawing: Which::First,
-        };
+        });
     }
     if !centre_sees(second, centre, corners) {
-        return Checked::Misses {
+        return Err(Fault::Misses {
             place: place,
             drawing: Which::Second,
-        };
+        });
     }
-    Checked::Accepted
+    Ok(())
 }
 
-pub fn first_fault(first: &[u8], second: &[u8], list: &[u8]) -> Checked
+pub fn first_fault(first: &[u8], second: &[u8], list: &[u8]) -> Result<(), Fault>
     requires { Cells first.now × Cells second.now × Readable list.now }
     ensures { FirstFault first.now second.now list.now (verdict result) }
 {
@@ -108,12 +114,9 @@ pub fn first_fault(first: &[u8], second: &[u8], list: &[u8]) -> Checked
     while at < list.len() {
         let from = at + 2;
         let to = from + wide(list[at]);
-        let found = fault(place, first, second, wide(list[at + 1]), &list[from..to]);
-        let Checked::Accepted = found else {
-            return found;
-        };
+        fault(place, first, second, wide(list[at + 1]), &list[from..to])?;
         at = to;
         place += 1;
     }
-    Checked::Accepted
+    Ok(())
 }

@@ -2,7 +2,7 @@
 ghost use Rattle.std.specs.Prelude.{◌≡◌};
 ghost use Rattle.checker.specs.Checks.{which_number, says, says_at, verdict, ChecksList};
 
-use crate::{Checked, check};
+use crate::{Fault, check};
 use pair::Which;
 
 // 02's number; with 23 and 24 the drawing, 1 or 2, and the piece's place in the list, from 0. Zeros where a case has
@@ -44,22 +44,18 @@ fn says_at(number: u8, place: usize, which: Which) -> Verdict
     }
 }
 
-fn flatten(checked: Checked) -> Verdict
-    ensures { result ≡ verdict checked }
-{
-    match checked {
-        Checked::Accepted => says(0),
-        Checked::Unlike => says(1),
-        Checked::FirstOutOfRange => says(3),
-        Checked::FirstNotSimple => says(4),
-        Checked::FirstNotAnticlockwise => says(5),
-        Checked::SecondOutOfRange => says(6),
-        Checked::SecondNotSimple => says(7),
-        Checked::SecondNotAnticlockwise => says(8),
-        Checked::NoList => says(21),
-        Checked::NoCutting => says(22),
-        Checked::Unseen { place, drawing } => says_at(23, place, drawing),
-        Checked::Misses { place, drawing } => says_at(24, place, drawing),
+impl From<Result<(), Fault>> for Verdict {
+    ghost from_gives = { λ checked flat. flat ≡ verdict checked };
+
+    fn from(checked: Result<(), Fault>) -> Verdict {
+        match checked {
+            Ok(()) => says(0),
+            Err(Fault::Pair(refusal)) => says(u8::from(refusal)),
+            Err(Fault::NoList) => says(21),
+            Err(Fault::NoCutting) => says(22),
+            Err(Fault::Unseen { place, drawing }) => says_at(23, place, drawing),
+            Err(Fault::Misses { place, drawing }) => says_at(24, place, drawing),
+        }
     }
 }
 
@@ -67,5 +63,5 @@ fn flatten(checked: Checked) -> Verdict
 pub fn iravikkon_check(first: &[i32], second: &[i32], list: &[u8]) -> Verdict
     ensures { ChecksList first.now second.now list.now result }
 {
-    flatten(check(first, second, list))
+    Verdict::from(check(first, second, list))
 }

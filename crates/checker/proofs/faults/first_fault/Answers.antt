@@ -1,5 +1,6 @@
 -- `checker::faults::first_fault`: the pieces before `at` have no fault, and the next one is the `place`-th.
 use native.Mathlib.Omega.{arith}
+use Rattle.std.proofs.lemmas.Result.{err_from_is_err_and}
 use Rattle.checker.proofs.Reading.{walk_none, walk_next, next_fits, next_corners}
 use Rattle.checker.proofs.Passes.{fault_more, fault_found, fault_none}
 use Rattle.checker.proofs.faults.first_fault.Goals as goal
@@ -28,8 +29,8 @@ bounds-list-at-in-loop-at c =
     let n = walk_next c.loop-at.invariant.0 c.loop-at-test.true in
     omega (arith, next_fits n c.wide.ensures)
 
-pub fault-found-requires : goal.fault-found-requires
-fault-found-requires c =
+pub fault-requires : goal.fault-requires
+fault-requires c =
     let n = walk_next c.loop-at.invariant.0 c.loop-at-test.true in
     let s = c.requires in
     (s.0, s.1, omega (arith, c.wide-in-loop-at.ensures, n.at_hand.centre, n.small), next_corners n c.wide.ensures)
@@ -39,12 +40,13 @@ slice_bounds-fault-end c =
     let n = walk_next c.loop-at.invariant.0 c.loop-at-test.true in
     omega (arith, next_fits n c.wide.ensures)
 
-pub returns-in_default : goal.returns-in_default
-returns-in_default c =
+pub returns-in_err-fault : goal.returns-in_err-fault
+returns-in_err-fault c =
     let n = walk_next c.loop-at.invariant.0 c.loop-at-test.true in
-    fault_found c.args.first.now c.args.second.now
-    c.loop-at.invariant.0 n c.wide.ensures c.wide-in-loop-at.ensures c.fault-found.result
-    c.fault-found.ensures c.in_default.not-Accepted
+    let p = err_from_is_err_and c.from_residual.result c.from_residual.ensures.1 in
+    rw (p.1, p.2)
+    (fault_found c.args.first.now c.args.second.now
+    c.loop-at.invariant.0 n c.wide.ensures c.wide-in-loop-at.ensures _ c.in_err-fault.ensures)
 
 pub overflow_add-place : goal.overflow_add-place
 overflow_add-place c = omega (arith, c.loop-at.invariant.1, c.loop-at-test.true)
@@ -58,8 +60,7 @@ pub loop-at-preserved : goal.loop-at-preserved
 loop-at-preserved c =
     let n = walk_next c.loop-at.invariant.0 c.loop-at-test.true in (
       fault_more c.args.first.now c.args.second.now
-          c.loop-at.invariant.0 n c.wide.ensures c.wide-in-loop-at.ensures c.fault-found.result
-          c.fault-found.ensures c.in-Accepted.is,
+          c.loop-at.invariant.0 n c.wide.ensures c.wide-in-loop-at.ensures c.in_ok-fault.ensures,
       omega (arith, c.loop-at.invariant.1),
     )
 
