@@ -1,4 +1,3 @@
 mod Worth
-mod Turning
 mod Feeding
 mod Writing

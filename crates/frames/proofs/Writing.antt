@@ -1,16 +1,10 @@
 -- Laws of digits that are stored one after the other.
-use Rattle.std.proofs.Common.{◌≡◌, ℕ, suc, ◌+◌, ◌*◌, ◌<◌, ◌≤◌, List, [], ◌∷◌, ◌++◌, length, get_or, take, set, sym, refl, ◌∙◌, add-zero, add-one, arith, length-append, length-take-le, take-suc, le-ltb, lt-ltb}
+use Rattle.std.proofs.Common.{append_assoc, ◌≡◌, ℕ, suc, ◌+◌, ◌*◌, ◌<◌, ◌≤◌, List, [], ◌∷◌, ◌++◌, length, get_or, take, set, sym, refl, ◌∙◌, add-zero, add-one, arith, length-append, length-take-le, take-suc}
 use lib.Seq.{sets, sets-eq}
-use Rattle.frames.specs.Frames.{line_feed, digit_of, digits_of, line_of, answer_line}
+use Rattle.frames.specs.Frames.{line_feed, digits_of, line_of}
 use Rattle.frames.specs.Answer.{Written}
 
 -- ---- digits
-pub low_digit : (v : ℕ) → v < 10 → 48 + v ≡ digit_of v
-low_digit v h = rw (lt-ltb v 10 h)
-
-pub high_digit : (v : ℕ) → 10 ≤ v → 55 + v ≡ digit_of v
-high_digit v h = rw (le-ltb v 10 h)
-
 digits_append : (xs ys : List ℕ) → digits_of (xs ++ ys) ≡ digits_of xs ++ digits_of ys
 digits_append [] ys = refl
 digits_append (x ∷ xs) ys = rw (digits_append xs ys)
@@ -26,10 +20,6 @@ sets_append (x ∷ xs) ys l i =
     let e : suc i + length xs ≡ i + suc (length xs) = omega arith in
     sets_append xs ys (set l i x) (suc i) ∙ rw e
 
-pub put_two : (out : List ℕ) (at a b : ℕ) {x y : ℕ} → x ≡ digit_of a → y ≡ digit_of b →
-    set (set out at x) (at + 1) y ≡ sets out at (digit_of a ∷ digit_of b ∷ [])
-put_two out at a b p q = rw (p, q, add-one at)
-
 pub put_more : (bytes out₀ : List ℕ) (at i : ℕ) {out out' : List ℕ} {to : ℕ} → i < length bytes → to ≡ at + 2 * i →
     out ≡ sets out₀ at (digits_of (take i bytes)) → out' ≡ sets out to (digits_of (get_or bytes i 0 ∷ [])) →
     out' ≡ sets out₀ at (digits_of (take (i + 1) bytes))
@@ -41,34 +31,41 @@ put_more bytes out₀ at i {out} {out'} {to} h t e q =
     (sym (sets_append (digits_of (take i bytes)) (digits_of (get_or bytes i 0 ∷ [])) out₀ at))
 
 -- ---- the lines
-pub placed : (line out : List ℕ) (at : ℕ) {r : ℕ} {out' : List ℕ} → at + length line ≤ length out →
+placed : (line out : List ℕ) (at : ℕ) {r : ℕ} {out' : List ℕ} → at + length line ≤ length out →
     r ≡ at + length line →
     out' ≡ sets out at line → Written line out at r out'
 placed line out at h e q =
     record { placed = λ _. (e, q ∙ sets-eq line out at h); refused = λ k. absurd (omega arith) }
 
-pub refused : (line out : List ℕ) (at : ℕ) → length out < at + length line → Written line out at at out
+refused : (line out : List ℕ) (at : ℕ) → length out < at + length line → Written line out at at out
 refused line out at h = record { placed = λ k. absurd (omega arith); refused = λ _. (refl, refl) }
 
 length_line : (bs : List ℕ) → length (line_of bs) ≡ 1 + 2 * length bs
 length_line bs = omega (arith, length-append (digits_of bs) (line_feed ∷ []), length_digits bs)
 
-pub length_answer : (pieces : ℕ) (answer : List ℕ) → length (answer_line pieces answer) ≡ 5 + 2 * length answer
-length_answer pieces answer = omega (arith, length_line (0xA0 ∷ pieces ∷ answer))
+-- the digits of some bytes, those of some more, and a line feed
+line_laid : (head rest out : List ℕ) (at : ℕ) {one two : List ℕ} {next end : ℕ} →
+    one ≡ sets out at (digits_of head) → next ≡ at + 2 * length head →
+    two ≡ sets one next (digits_of rest) → end ≡ next + 2 * length rest →
+    set two end line_feed ≡ sets out at (line_of (head ++ rest))
+line_laid head rest out at {one} {two} {next} {end} e₁ n₁ e₂ n₂ =
+    let mid : at + length (digits_of head) ≡ next = omega (arith, length_digits head, n₁) in
+    let stop : next + length (digits_of rest) ≡ end = omega (arith, length_digits rest, n₂) in
+    sym (rw (digits_append head rest, append_assoc (digits_of head) (digits_of rest) (line_feed ∷ []))
+    (sets_append (digits_of head) (digits_of rest ++ line_feed ∷ []) out at
+    ∙ rw (← e₁, mid) (sets_append (digits_of rest) (line_feed ∷ []) one next ∙ rw (← e₂, stop))))
 
--- a byte's digits and a line feed
-pub byte_laid : (tag : ℕ) (out : List ℕ) (at : ℕ) {one : List ℕ} → one ≡ sets out at (digits_of (tag ∷ [])) →
-    set one (at + 2) line_feed ≡ sets out at (line_of (tag ∷ []))
-byte_laid tag out at e = rw e (sym (sets_append (digits_of (tag ∷ [])) (line_feed ∷ []) out at))
+pub line_written : (head rest out : List ℕ) (at : ℕ) {one two : List ℕ} {next end : ℕ} →
+    at + (1 + 2 * (length head + length rest)) ≤ length out →
+    one ≡ sets out at (digits_of head) → next ≡ at + 2 * length head →
+    two ≡ sets one next (digits_of rest) → end ≡ next + 2 * length rest →
+    Written (line_of (head ++ rest)) out at (end + 1) (set two end line_feed)
+line_written head rest out at fits e₁ n₁ e₂ n₂ =
+    let size = length_line (head ++ rest) in
+    placed (line_of (head ++ rest)) out at (omega (arith, size, length-append head rest))
+    (omega (arith, size, length-append head rest, n₁, n₂)) (line_laid head rest out at e₁ n₁ e₂ n₂)
 
--- two bytes' digits, those of some more, and a line feed
-pub line_laid : (tag count : ℕ) (rest out : List ℕ) (at : ℕ) {one two three : List ℕ} {end : ℕ} →
-    one ≡ sets out at (digits_of (tag ∷ [])) → two ≡ sets one (at + 2) (digits_of (count ∷ [])) →
-    three ≡ sets two (at + 4) (digits_of rest) → end ≡ at + 4 + 2 * length rest →
-    set three end line_feed ≡ sets out at (line_of (tag ∷ count ∷ rest))
-line_laid tag count rest out at {one} {two} {three} {end} e₁ e₂ e₃ ends =
-    let place : at + 4 + length (digits_of rest) ≡ end = omega (arith, length_digits rest, ends) in
-    let four : at + 2 + 2 ≡ at + 4 = omega arith in
-    sym (sets_append (digits_of (tag ∷ [])) (digits_of (count ∷ []) ++ (digits_of rest ++ line_feed ∷ [])) out at
-    ∙ rw (← e₁) (sets_append (digits_of (count ∷ [])) (digits_of rest ++ line_feed ∷ []) one (at + 2)
-    ∙ rw (← e₂, four) (sets_append (digits_of rest) (line_feed ∷ []) two (at + 4) ∙ rw (← e₃, place))))
+pub line_refused : (head rest out : List ℕ) (at : ℕ) →
+    length out < at + (1 + 2 * (length head + length rest)) → Written (line_of (head ++ rest)) out at at out
+line_refused head rest out at h =
+    refused (line_of (head ++ rest)) out at (omega (arith, length_line (head ++ rest), length-append head rest))

@@ -1,4 +1,6 @@
 -- What a reader holds of a line after the characters `pre`, and what the next character may do to it.
+use Rattle.frames.specs.Reader.{ReadGives}
+use Rattle.std.specs.Prelude.{Ok, Err}
 use Rattle.std.specs.Prelude.{◌≡◌, ℕ, ◌*◌, ◌<◌, ◌≤◌, true, false, ◌⊎◌, List, [], ◌∷◌, ◌++◌, length, take, ℤ, ◌≢◌, refl}
 use Rattle.std.proofs.Math.Option.{none, some}
 use Rattle.std.proofs.Common.{arith}
@@ -7,7 +9,6 @@ use Rattle.frames.specs.Frames.{line_feed, bytes, numbers, frame}
 use Rattle.frames.specs.Reader.{nothing_read}
 use Rattle.frames.specs.Digits.{Digits, value_on}
 use Rattle.frames.specs.declared.Line.{Line}
-use Rattle.frames.specs.declared.frame.After.{After}
 use Rattle.frames.specs.declared.frame.After.TheVariants as after
 
 -- the digits of what is being read
@@ -45,9 +46,9 @@ Doomed tag pre c =
     ((c ≢ line_feed) × ((more : List ℕ) → frame tag (pre ++ c ∷ more) ≡ none))
 
 -- what a character c after `pre` does
-abbrev pub Then : ℕ → List ℤ → List ℕ → ℕ → After × List ℤ → Type 0
-Then tag buffer pre c (after.On l, b) =
+abbrev pub Then : ℕ → List ℤ → List ℕ → ℕ → ReadGives → Type 0
+Then tag buffer pre c (Ok (after.On l), b) =
     (c ≢ line_feed) × Holds tag l b (pre ++ c ∷ []) × (length b ≡ length buffer)
-Then tag buffer pre c (after.Frame n, b) =
+Then tag buffer pre c (Ok (after.Frame n), b) =
     (c ≡ line_feed) × (frame tag pre ≡ some (take n b)) × (n ≤ length b) × (length b ≡ length buffer)
-Then tag buffer pre c (after.Bad, b) = Doomed tag pre c
+Then tag buffer pre c (Err _, b) = Doomed tag pre c

@@ -1,8 +1,11 @@
 -- The reader as an automaton: what each byte does to a reader and to the two buffers, for every reader, every byte and
 -- all buffers. This is what the code's functions promise, step for step; `Whole` proves that it gives the events of
 -- 01.
+use Rattle.std.specs.Prelude.{Result, Ok, Err, Option, Some, None}
+use Rattle.frames.specs.declared.Fault.{Fault}
 use Rattle.std.specs.Prelude.{ℕ, ◌+◌, ◌-◌, ◌*◌, ◌%◌, Bool, true, false, cond, not, List, [], ◌∷◌, length, take, ℤ, ◌==◌, nat_le, nat_lt, slice_set}
-use Rattle.std.proofs.Math.Option.{get_or}
+use Rattle.std.proofs.Math.Option.{none, some, get_or}
+use Rattle.std.proofs.Math.Option as Math
 use Rattle.limits.specs.Limits.{most_corners}
 use Rattle.frames.specs.Frames.{digit, line_feed, two's_complement, first_tag, second_tag, Event, pair, fault}
 use Rattle.frames.specs.declared.Line.{Line}
@@ -14,48 +17,70 @@ use Rattle.frames.specs.declared.frame.After.TheVariants as after
 use Rattle.frames.specs.declared.turn.Step.{Step}
 use Rattle.frames.specs.declared.turn.Step.TheVariants as step
 
+-- what `read`, `take` and `feed` give, with the buffers after the call
+abbrev pub ReadGives : Type 0
+ReadGives = Result After Fault × List ℤ
+
+abbrev pub TakeGives : Type 0
+TakeGives = Result Step Fault × List ℤ × List ℤ
+
+abbrev pub FeedGives : Type 0
+FeedGives = Result Fed Fault × List ℤ × List ℤ
+
 -- what a character is worth as a digit; 16 is no digit
 unfoldable pub worth : ℕ → ℕ
 worth c = get_or (digit c) 16
+
+-- 01's digit, as the machine's `Option`
+abbrev pub found : Math.Option ℕ → Option ℕ
+found none = None
+found (some d) = Some d
+
+unfoldable pub digit_value : ℕ → Option ℕ
+digit_value c = found (digit c)
+
+-- a line of another form, a frame out of turn, one that has no room: there is one fault
+abbrev pub failed : {A : Type 0} → Result A Fault
+failed = Err (record {})
 
 -- ---- one line
 abbrev pub nothing_read : Line
 nothing_read = record { head = true; want = 0; at = 0; part = 0; value = 0 }
 
 -- a character that is no digit, where the buffer has so much room: the end of a whole frame, or a line of another form
-unfoldable pub closes : Line → ℕ → ℕ → After
+unfoldable pub closes : Line → ℕ → ℕ → Result After Fault
 closes l c room =
     cond (c == line_feed)
-    (cond l.head after.Bad
+    (cond l.head failed
     (cond (l.part == 0)
-    (cond (l.at == l.want) (cond (nat_le l.at room) (after.Frame l.at) after.Bad) after.Bad) after.Bad))
-    after.Bad
+    (cond (l.at == l.want) (cond (nat_le l.at room) (Ok (after.Frame l.at)) failed) failed) failed))
+    failed
 
 -- a digit of the first two bytes, whose value is v with it: after the fourth they are the tag and the count of corners
-unfoldable pub begins : ℕ → Line → ℕ → After
+unfoldable pub begins : ℕ → Line → ℕ → Result After Fault
 begins tag l v =
     cond (nat_lt l.part 3)
-    (after.On (record { head = true; want = l.want; at = l.at; part = l.part + 1; value = v }))
-    (cond (nat_lt v (tag * 256)) after.Bad
+    (Ok (after.On (record { head = true; want = l.want; at = l.at; part = l.part + 1; value = v })))
+    (cond (nat_lt v (tag * 256)) failed
     (cond (nat_le (v - tag * 256) most_corners)
-    (after.On (record { head = false; want = 2 * (v - tag * 256); at = 0; part = 0; value = 0 })) after.Bad))
+    (Ok (after.On (record { head = false; want = 2 * (v - tag * 256); at = 0; part = 0; value = 0 }))) failed))
 
 -- a digit of the numbers: after the sixth there is a number more, and it stands in the buffer
-unfoldable pub goes_on : Line → List ℤ → ℕ → After × List ℤ
+unfoldable pub goes_on : Line → List ℤ → ℕ → ReadGives
 goes_on l buffer v =
     cond (nat_lt l.at l.want)
     (cond (nat_lt l.part 5)
-    (after.On (record { head = false; want = l.want; at = l.at; part = l.part + 1; value = v }), buffer)
+    (Ok (after.On (record { head = false; want = l.want; at = l.at; part = l.part + 1; value = v })), buffer)
     (cond (nat_lt l.at (length buffer)) (
-      after.On (record { head = false; want = l.want; at = l.at + 1; part = 0; value = 0 }),
+      Ok (after.On (record { head = false; want = l.want; at = l.at + 1; part = 0; value = 0 })),
       slice_set buffer l.at (two's_complement v),
-    ) (after.Bad, buffer))) (after.Bad, buffer)
+    ) (failed, buffer))) (failed, buffer)
 
 -- the value of the digits with one more, d, cut off at six digits
 abbrev pub valued : Line → ℕ → ℕ
 valued l d = l.value % 0x100000 * 16 + d
 
-unfoldable pub reads : ℕ → Line → List ℤ → ℕ → After × List ℤ
+unfoldable pub reads : ℕ → Line → List ℤ → ℕ → ReadGives
 reads tag l buffer c =
     cond (nat_lt (worth c) 16)
     (cond l.head (begins tag l (valued l (worth c)), buffer) (goes_on l buffer (valued l (worth c))))
@@ -65,32 +90,32 @@ reads tag l buffer c =
 abbrev pub fresh : Reader
 fresh = record { second = false; numbers = 0; line = nothing_read }
 
-abbrev pub on_second : ℕ → After → List ℤ → List ℤ → Step × List ℤ × List ℤ
-on_second n (after.On l) f g = (step.On (record { second = true; numbers = n; line = l }), f, g)
-on_second n (after.Frame m) f g = (cond (nat_le n (length f)) (step.Pair n m) step.Fault, f, g)
-on_second n after.Bad f g = (step.Fault, f, g)
+abbrev pub on_second : ℕ → Result After Fault → List ℤ → List ℤ → TakeGives
+on_second n (Ok (after.On l)) f g = (Ok (step.On (record { second = true; numbers = n; line = l })), f, g)
+on_second n (Ok (after.Frame m)) f g = (cond (nat_le n (length f)) (Ok (step.Pair n m)) failed, f, g)
+on_second n (Err _) f g = (failed, f, g)
 
-abbrev pub on_first : ℕ → After → List ℤ → List ℤ → Step × List ℤ × List ℤ
-on_first n (after.On l) f g = (step.On (record { second = false; numbers = n; line = l }), f, g)
-on_first n (after.Frame m) f g = (step.On (record { second = true; numbers = m; line = nothing_read }), f, g)
-on_first n after.Bad f g = (step.Fault, f, g)
+abbrev pub on_first : ℕ → Result After Fault → List ℤ → List ℤ → TakeGives
+on_first n (Ok (after.On l)) f g = (Ok (step.On (record { second = false; numbers = n; line = l })), f, g)
+on_first n (Ok (after.Frame m)) f g = (Ok (step.On (record { second = true; numbers = m; line = nothing_read })), f, g)
+on_first n (Err _) f g = (failed, f, g)
 
 -- the byte c: f and g are the buffers of the first and the second drawing
-unfoldable pub steps : Reader → List ℤ → List ℤ → ℕ → Step × List ℤ × List ℤ
+unfoldable pub steps : Reader → List ℤ → List ℤ → ℕ → TakeGives
 steps r f g c =
     cond r.second
     (on_second r.numbers (reads second_tag r.line g c).0 f (reads second_tag r.line g c).1)
     (on_first r.numbers (reads first_tag r.line f c).0 (reads first_tag r.line f c).1 g)
 
 -- ---- a part of an input, whose first byte has the number i
-abbrev pub fed_by : Step × List ℤ × List ℤ → ℕ → (Reader → List ℤ → List ℤ → Fed × List ℤ × List ℤ) →
-    Fed × List ℤ × List ℤ
-fed_by (step.On r, f, g) i more = more r f g
-fed_by (step.Pair n m, f, g) i more = (fed.Pair n m (i + 1), f, g)
-fed_by (step.Fault, f, g) i more = (fed.Fault, f, g)
+abbrev pub fed_by : TakeGives → ℕ → (Reader → List ℤ → List ℤ → FeedGives) →
+    FeedGives
+fed_by (Ok (step.On r), f, g) i more = more r f g
+fed_by (Ok (step.Pair n m), f, g) i more = (Ok (fed.Pair n m (i + 1)), f, g)
+fed_by (Err _, f, g) i more = (failed, f, g)
 
-unfoldable pub feeds : Reader → List ℤ → List ℤ → ℕ → List ℕ → Fed × List ℤ × List ℤ
-feeds r f g i [] = (fed.More r, f, g)
+unfoldable pub feeds : Reader → List ℤ → List ℤ → ℕ → List ℕ → FeedGives
+feeds r f g i [] = (Ok (fed.More r), f, g)
 feeds r f g i (c ∷ cs) = fed_by (steps r f g c) i (λ r' f' g'. feeds r' f' g' (i + 1) cs)
 
 -- ---- the end of an input
@@ -98,10 +123,10 @@ unfoldable pub ends_in_fault : Reader → Bool
 ends_in_fault r = cond r.second true (cond r.line.head (not (r.line.part == 0)) true)
 
 -- ---- what an input tells from a reader on: `fault_at_end` at its end, and else byte for byte
-abbrev pub events_by : Step × List ℤ × List ℤ → (Reader → List ℤ → List ℤ → List Event) → List Event
-events_by (step.On r, f, g) more = more r f g
-events_by (step.Pair n m, f, g) more = pair (take n f) (take m g) ∷ more fresh f g
-events_by (step.Fault, f, g) more = fault ∷ []
+abbrev pub events_by : TakeGives → (Reader → List ℤ → List ℤ → List Event) → List Event
+events_by (Ok (step.On r), f, g) more = more r f g
+events_by (Ok (step.Pair n m), f, g) more = pair (take n f) (take m g) ∷ more fresh f g
+events_by (Err _, f, g) more = fault ∷ []
 
 unfoldable pub from : Reader → List ℤ → List ℤ → List ℕ → List Event
 from r f g [] = cond (ends_in_fault r) (fault ∷ []) []

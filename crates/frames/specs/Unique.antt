@@ -1,4 +1,6 @@
 -- No second result and no second buffer: each public call's statement leaves one.
+use Rattle.std.specs.Prelude.{Result}
+use Rattle.frames.specs.declared.Fault.{Fault}
 use Rattle.std.specs.Prelude.{◌≡◌, ℕ, Bool, List, ℤ}
 use Rattle.std.proofs.Common.{sym, ◌∙◌}
 use Rattle.frames.specs.Frames.{answer_line, refusal_line, fault_line}
@@ -11,7 +13,8 @@ use Rattle.frames.specs.declared.Fed.{Fed}
 pub start_unique : (r s : Reader) → r ≡ fresh → s ≡ fresh → r ≡ s
 start_unique r s p q = p ∙ sym q
 
-pub feed_unique : (reader : Reader) (chunk : List ℕ) (i : ℕ) (f g : List ℤ) (r s : Fed) (f' f'' g' g'' : List ℤ) →
+pub feed_unique : (reader : Reader) (chunk : List ℕ) (i : ℕ) (f g : List ℤ) (r s : Result Fed Fault)
+    (f' f'' g' g'' : List ℤ) →
     Feeding reader chunk i f g r f' g' → Feeding reader chunk i f g s f'' g'' → (r ≡ s) × (f' ≡ f'') × (g' ≡ g'')
 feed_unique reader chunk i f g r s f' f'' g' g'' p q =
     let e = p.exact ∙ sym q.exact in

@@ -1,6 +1,8 @@
 -- The reader gives the events of 01: `from` a fresh reader over a whole input is `events` of it.
 -- By induction over the input, with `pre` the characters of the line that is being read: what is still to come belongs
 -- behind them.
+use Rattle.frames.specs.Reader.{ReadGives}
+use Rattle.std.specs.Prelude.{Ok, Err}
 use Rattle.std.specs.Prelude.{◌≡◌, ℕ, ◌<◌, ◌≤◌, Bool, true, false, cond, List, [], ◌∷◌, ◌++◌, length, take, ℤ, ◌≢◌, refl}
 use Rattle.std.proofs.Common.{sym, ◌∙◌, ap, append-nil, inl, inr, arith, eq-eqb, ne_eqb, le-leb, length-append}
 use Rattle.std.proofs.Math.Option.{none, some}
@@ -14,7 +16,6 @@ use Rattle.frames.specs.Bytes.{bytes_length}
 use Rattle.frames.specs.Holds.{Holds, in_head, in_body, holds_nothing, Doomed, Then}
 use Rattle.frames.specs.Keeps.{keeps}
 use Rattle.frames.specs.declared.Reader.{Reader}
-use Rattle.frames.specs.declared.frame.After.{After}
 use Rattle.frames.specs.declared.frame.After.TheVariants as after
 
 -- ---- characters in front of a text
@@ -110,34 +111,34 @@ at_end r f pre b = cond b (events_second (take r.numbers f)) events_of [] (pre +
 
 -- ---- a byte more, with the rest of the input in hand
 module _ (xs : List ℕ) (more : Agrees xs) (c : ℕ) (n : ℕ) (pre : List ℕ) where
-  by_first : (f g : List ℤ) → most_numbers ≤ length f → most_numbers ≤ length g → (ab : After × List ℤ) →
+  by_first : (f g : List ℤ) → most_numbers ≤ length f → most_numbers ≤ length g → (ab : ReadGives) →
       Then first_tag f pre c ab →
       events_by (on_first n ab.0 ab.1 g) (λ r' f' g'. from r' f' g' xs)
       ≡ events_of (onto pre (led_by c (in_lines xs))).lines (onto pre (led_by c (in_lines xs))).rest
-  by_first f g hf hg (after.On l, b) (no_feed, holds, same) =
+  by_first f g hf hg (Ok (after.On l), b) (no_feed, holds, same) =
       rw (onto_other pre c (in_lines xs) no_feed)
       (more (record { second = false; numbers = n; line = l }) b g (pre ++ c ∷ []) (first refl holds) (omega arith) hg)
-  by_first f g hf hg (after.Frame m, b) (feed, is, fits, same) =
+  by_first f g hf hg (Ok (after.Frame m), b) (feed, is, fits, same) =
       rw (onto_feed pre c (in_lines xs) feed, first_then_second pre (in_lines xs).lines (in_lines xs).rest is)
       (rw (onto_nothing (in_lines xs)) at
       (more (record { second = true; numbers = m; line = nothing_read }) b g []
       (second refl fits (holds_nothing second_tag g)) (omega arith) hg))
-  by_first f g hf hg (after.Bad, b) d = doomed first_tag events_of events_none events_rest pre c (in_lines xs) d
+  by_first f g hf hg (Err _, b) d = doomed first_tag events_of events_none events_rest pre c (in_lines xs) d
 
   by_second : (f g : List ℤ) → most_numbers ≤ length f → most_numbers ≤ length g → n ≤ length f →
-      (ab : After × List ℤ) → Then second_tag g pre c ab →
+      (ab : ReadGives) → Then second_tag g pre c ab →
       events_by (on_second n ab.0 f ab.1) (λ r' f' g'. from r' f' g' xs)
       ≡ events_second (take n f) (onto pre (led_by c (in_lines xs))).lines (onto pre (led_by c (in_lines xs))).rest
-  by_second f g hf hg fits (after.On l, b) (no_feed, holds, same) =
+  by_second f g hf hg fits (Ok (after.On l), b) (no_feed, holds, same) =
       rw (onto_other pre c (in_lines xs) no_feed)
       (more (record { second = true; numbers = n; line = l }) f b (pre ++ c ∷ [])
       (second refl fits holds) hf (omega arith))
-  by_second f g hf hg fits (after.Frame m, b) (feed, is, within, same) =
+  by_second f g hf hg fits (Ok (after.Frame m), b) (feed, is, within, same) =
       rw (le-leb n (length f) fits, onto_feed pre c (in_lines xs) feed, is)
       (ap (λ (es : List Event). pair (take n f) (take m b) ∷ es)
       (rw (onto_nothing (in_lines xs)) at
       (more fresh f b [] (first refl (holds_nothing first_tag f)) hf (omega arith))))
-  by_second f g hf hg fits (after.Bad, b) d =
+  by_second f g hf hg fits (Err _, b) d =
       doomed second_tag (events_second (take n f)) (λ l ls r e. rw e) (λ r h. refl) pre c (in_lines xs) d
 
 agrees : (xs : List ℕ) → Agrees xs

@@ -1,11 +1,12 @@
 // The lines of an answer: each is laid into `out` from `at` on, and the place after it comes back. Where it has no
 // room, nothing is written and `at` comes back.
-ghost use Rattle.frames.specs.Frames.{answer_line, refusal_line, fault_line};
+ghost use Rattle.std.specs.Prelude.{◌++◌};
+ghost use Rattle.frames.specs.Frames.{line_of, answer_line, refusal_line, fault_line};
 ghost use Rattle.frames.specs.Answer.{Written};
 
-use crate::digits::{put, put_all};
+use crate::digits::put_all;
 
-const LINE_FEED: u8 = 10;
+const LINE_FEED: u8 = b'\n';
 
 const ANSWER: u8 = 0xA0;
 
@@ -13,54 +14,37 @@ const REFUSAL: u8 = 0xE0;
 
 const FAULT: u8 = 0xEF;
 
+// The line of the bytes of `head` and of `rest`: two digits for each, and a line feed.
+fn line(head: &[u8], rest: &[u8], out: &mut [u8], at: usize) -> usize
+    ensures { Written (line_of (head.now ++ rest.now)) out.old at result out.new }
+{
+    let room = out.len().saturating_sub(at);
+    if rest.len() >= room.div_ceil(2).saturating_sub(head.len()) {
+        return at;
+    }
+    let next = put_all(head, out, at);
+    let end = put_all(rest, out, next);
+    out[end] = LINE_FEED;
+    end + 1
+}
+
 // A0, the count of pieces and the answer bytes.
 pub fn answer_line(pieces: u8, answer: &[u8], out: &mut [u8], at: usize) -> usize
     ensures { Written (answer_line pieces answer.now) out.old at result out.new }
 {
-    if at > out.len() {
-        return at;
-    }
-    let room = out.len() - at;
-    if room < 5 {
-        return at;
-    }
-    if answer.len() > (room - 5) / 2 {
-        return at;
-    }
-    put(ANSWER, out, at);
-    put(pieces, out, at + 2);
-    let end = put_all(answer, out, at + 4);
-    out[end] = LINE_FEED;
-    end + 1
+    line(&[ANSWER, pieces], answer, out, at)
 }
 
 // E0 and the refusal number.
 pub fn refusal_line(number: u8, out: &mut [u8], at: usize) -> usize
     ensures { Written (refusal_line number) out.old at result out.new }
 {
-    if at > out.len() {
-        return at;
-    }
-    if out.len() - at < 5 {
-        return at;
-    }
-    put(REFUSAL, out, at);
-    put(number, out, at + 2);
-    out[at + 4] = LINE_FEED;
-    at + 5
+    line(&[REFUSAL, number], &[], out, at)
 }
 
 // EF.
 pub fn fault_line(out: &mut [u8], at: usize) -> usize
     ensures { Written fault_line out.old at result out.new }
 {
-    if at > out.len() {
-        return at;
-    }
-    if out.len() - at < 3 {
-        return at;
-    }
-    put(FAULT, out, at);
-    out[at + 2] = LINE_FEED;
-    at + 3
+    line(&[FAULT], &[], out, at)
 }

@@ -2,26 +2,21 @@
 ghost use Rattle.std.specs.Prelude.{◌≡◌, ◌+◌, ◌*◌, ◌<◌, ◌≤◌, [], ◌∷◌, length};
 ghost use Rattle.std.proofs.lemmas.List.Edits.{sets};
 ghost use Rattle.frames.specs.Frames.{digit_of, digits_of};
-ghost use Rattle.frames.specs.Reader.{worth};
-
-use std::num::wrapping_sub_u8;
-
-// What no digit is worth.
-pub const NO_DIGIT: u8 = 16;
+ghost use Rattle.frames.specs.Reader.{digit_value};
 
 // What a character is worth as a digit. Both differences are taken first, so that the compiler needs no branch.
-pub fn worth(c: u8) -> u8
-    ensures { result ≡ worth c }
+pub fn worth(c: u8) -> Option<u8>
+    ensures { result ≡ digit_value c }
 {
-    let d = wrapping_sub_u8(c, b'0');
-    let e = wrapping_sub_u8(c, b'A');
+    let d = c.wrapping_sub(b'0');
+    let e = c.wrapping_sub(b'A');
     if d < 10 {
-        return d;
+        return Some(d);
     }
     if e < 6 {
-        return e + 10;
+        return Some(e + 10);
     }
-    NO_DIGIT
+    None
 }
 
 // The digit of a value.
@@ -29,14 +24,11 @@ fn digit_of(v: u8) -> u8
     requires { v < 16 }
     ensures { result ≡ digit_of v }
 {
-    if v < 10 {
-        return 48 + v;
-    }
-    55 + v
+    if v < 10 { b'0' + v } else { b'A' + (v - 10) }
 }
 
 // The two digits of a byte.
-pub fn put(byte: u8, out: &mut [u8], at: usize)
+fn put(byte: u8, out: &mut [u8], at: usize)
     requires { at + 1 < length out.old }
     ensures { out.new ≡ sets out.old at (digits_of (byte ∷ [])) }
 {
@@ -50,12 +42,10 @@ pub fn put_all(bytes: &[u8], out: &mut [u8], at: usize) -> usize
     ensures value { result ≡ at + 2 * length bytes.now }
     ensures out_after { out.new ≡ sets out.old at (digits_of bytes.now) }
 {
-    let mut i = 0;
     let mut to = at;
-    while i < bytes.len() {
-        put(bytes[i], out, to);
+    for byte in bytes {
+        put(*byte, out, to);
         to += 2;
-        i += 1;
     }
     to
 }

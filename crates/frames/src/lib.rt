@@ -11,12 +11,11 @@ mod digits;
 mod frame;
 mod turn;
 
-use frame::blank;
-use turn::{Step, take};
+use turn::Step;
 
 // What is read of a line. Any values of the fields will do: what each means for the next byte is stated for all of
 // them.
-#[derive(Clone, Copy)]
+#[derive(Clone, Copy, PartialEq, Eq, Debug)]
 pub struct Line {
     // within the first two bytes
     pub head: bool,
@@ -31,7 +30,7 @@ pub struct Line {
 }
 
 // The reader between two bytes.
-#[derive(Clone, Copy)]
+#[derive(Clone, Copy, PartialEq, Eq, Debug)]
 pub struct Reader {
     // the line is the second of its pair
     pub second: bool,
@@ -40,8 +39,8 @@ pub struct Reader {
     pub line: Line,
 }
 
-// What became of a part of the input.
-#[derive(Clone, Copy)]
+// What became of a part of the input, where there is no fault.
+#[derive(Clone, Copy, PartialEq, Eq, Debug)]
 pub enum Fed {
     // all of it is read, and this is the reader after it
     More(Reader),
@@ -52,9 +51,11 @@ pub enum Fed {
         second: usize,
         next: usize,
     },
-    // a line of another form, or a frame out of turn: nothing after it is read
-    Fault,
 }
+
+// A line of another form, or a frame out of turn: nothing after it is read.
+#[derive(Clone, Copy, PartialEq, Eq, Debug)]
+pub struct Fault;
 
 // The reader at the beginning of an input, and after each pair.
 pub fn start() -> Reader
@@ -63,46 +64,44 @@ pub fn start() -> Reader
     Reader {
         second: false,
         numbers: 0,
-        line: blank(),
+        line: Line::blank(),
     }
 }
 
 // Reads `chunk` from `from` on, up to its end, a pair or a fault. The numbers of the drawings go into `first` and
 // `second`; a frame that has no room there is a fault.
-pub fn feed(reader: Reader, chunk: &[u8], from: usize, first: &mut [i32], second: &mut [i32]) -> Fed
+pub fn feed(
+    reader: Reader,
+    chunk: &[u8],
+    from: usize,
+    first: &mut [i32],
+    second: &mut [i32],
+) -> Result<Fed, Fault>
     ensures { Feeding reader chunk.now from first.old second.old
         result first.new second.new }
 {
     let mut r = reader;
-    let mut i = from;
-    while i < chunk.len() {
-        match take(r, chunk[i], first, second) {
+    for i in from..chunk.len() {
+        match r.take(chunk[i], first, second)? {
             Step::On(next) => {
                 r = next;
             }
             Step::Pair(a, b) => {
-                return Fed::Pair {
+                return Ok(Fed::Pair {
                     first: a,
                     second: b,
                     next: i + 1,
-                };
-            }
-            Step::Fault => {
-                return Fed::Fault;
+                });
             }
         }
-        i += 1;
     }
-    Fed::More(r)
+    Ok(Fed::More(r))
 }
 
 // Whether an input that ends here ends in a fault: inside a line, or after the first frame of a pair.
+#[tactic(auto, unfolding(crate::specs::Reader::ends_in_fault))]
 pub fn fault_at_end(reader: Reader) -> bool
     ensures { result ≡ ends_in_fault reader }
 {
-    let line = reader.line;
-    if reader.second {
-        return true;
-    }
-    if line.head { line.part != 0 } else { true }
+    reader.second || !reader.line.head || reader.line.part != 0
 }

@@ -1,4 +1,10 @@
 -- The loop over a chunk: one law for each thing that `feed` reports.
+use Rattle.frames.specs.Reader.{FeedGives}
+use Rattle.std.specs.Prelude.{Some, None}
+use Rattle.terminal.specs.Going.{Session}
+use Rattle.std.specs.Prelude.{Result, Ok}
+use Rattle.frames.specs.declared.Fault.{Fault}
+use Rattle.frames.specs.Reader.{failed}
 use mathlib.Core.Path.{◌≡◌, refl, ◌∙◌, ap}
 use mathlib.Core.List.{List, [], ◌∷◌, ◌++◌, append_assoc, append-nil}
 use mathlib.Core.Logic.{◌⊎◌, inl, inr, ⊎_elim}
@@ -18,13 +24,11 @@ use Rattle.terminal.specs.Longest.{pair_short}
 use Rattle.terminal.specs.Going.{Gone, with_events, reads, reads_more, reads_pair, reads_fault}
 use Rattle.terminal.specs.Running.{Wrote, Lent, Done}
 use Rattle.terminal.specs.Laying.{Space, Laid}
-use Rattle.terminal.specs.declared.Session.{Session}
-use Rattle.terminal.specs.declared.Session.TheVariants as session
 use Rattle.terminal.proofs.Laying.{laid_fault, wrote_none, wrote_more}
 
 -- ---- a session that is over
-pub runs_over : {s : Session} {f g : List ℤ} {chunk out : List ℕ} → s ≡ session.Over → Lent f g chunk out →
-    Done s f g chunk out f g out session.Over 0
+pub runs_over : {s : Session} {f g : List ℤ} {chunk out : List ℕ} → s ≡ None → Lent f g chunk out →
+    Done s f g chunk out f g out None 0
 runs_over {out} e lent =
     rw e
     (record {
@@ -66,14 +70,14 @@ module _ {r₀ : Reader} {f₀ g₀ : List ℤ} {chunk out₀ : List ℕ} where
   }
 
   module _ {f g : List ℤ} {out : List ℕ} {r : Reader} {at len : ℕ} (so : So r₀ f₀ g₀ chunk out₀ f g out r at len)
-      (lent : Lent f₀ g₀ chunk out₀) {x : Fed} {f' g' : List ℤ}
-      (q : ◌≡◌ {A = Fed × List ℤ × List ℤ} (x, f', g') (feeds r f g at (drop at chunk))) where
+      (lent : Lent f₀ g₀ chunk out₀) {x : Result Fed Fault} {f' g' : List ℤ}
+      (q : ◌≡◌ {A = FeedGives} (x, f', g') (feeds r f g at (drop at chunk))) where
     -- the chunk is read
-    pub so_more : {r' : Reader} → x ≡ fed.More r' →
-        Done (session.Reading r₀) f₀ g₀ chunk out₀ f' g' out (session.Reading r') len
+    pub so_more : {r' : Reader} → x ≡ Ok (fed.More r') →
+        Done (Some r₀) f₀ g₀ chunk out₀ f' g' out (Some r') len
     so_more {r'} e =
         let w : reads r₀ f₀ g₀ chunk
-        ≡ record { events = so.reported; session = session.Reading r'; first = f'; second = g' } =
+        ≡ record { events = so.reported; session = Some r'; first = f'; second = g' } =
         so.going ∙ ap (with_events so.reported) (reads_more r f g chunk at q e) ∙ rw (append-nil so.reported) in
         record {
           lent = lent;
@@ -85,7 +89,7 @@ module _ {r₀ : Reader} {f₀ g₀ : List ℤ} {chunk out₀ : List ℕ} where
         }
 
     -- a pair: its line has room, and is paid for
-    module _ {n m next : ℕ} (e : x ≡ fed.Pair n m next) where
+    module _ {n m next : ℕ} (e : x ≡ Ok (fed.Pair n m next)) where
       takes : PairTakes r f' g' (length chunk) at n m next
       takes = feed_pair_takes r f g chunk at q e
 
@@ -117,12 +121,12 @@ module _ {r₀ : Reader} {f₀ g₀ : List ℤ} {chunk out₀ : List ℕ} where
           }
 
     -- a fault: EF stands behind the lines of the pairs before it
-    pub so_fault : {out' : List ℕ} {len' : ℕ} → x ≡ fed.Fault → Written fault_line out len len' out' →
-        Done (session.Reading r₀) f₀ g₀ chunk out₀ f' g' out' session.Over len'
+    pub so_fault : {out' : List ℕ} {len' : ℕ} → x ≡ failed → Written fault_line out len len' out' →
+        Done (Some r₀) f₀ g₀ chunk out₀ f' g' out' None len'
     so_fault {out'} {len'} e h =
         let l = laid_fault out out' len len' (omega (arith, so.spent, so.within, so.same, lent.out_fits)) h in
         let w : reads r₀ f₀ g₀ chunk
-        ≡ record { events = so.reported ++ fault ∷ []; session = session.Over; first = f'; second = g' } =
+        ≡ record { events = so.reported ++ fault ∷ []; session = None; first = f'; second = g' } =
         so.going ∙ ap (with_events so.reported) (reads_fault r f g chunk at q e) in
         record {
           lent = lent;

@@ -1,17 +1,17 @@
 -- What the public calls promise, for every session, every chunk and all buffers.
+use Rattle.std.specs.Prelude.{Some, None, Result, Ok, Err}
+use Rattle.terminal.specs.Going.{Session}
+use Rattle.terminal.specs.declared.Ran.{Ran}
+use Rattle.terminal.specs.declared.Short.{Short}
 use Rattle.std.specs.Prelude.{◌≡◌, List, ℕ, ◌+◌, ◌≤◌, ℤ, length, take, drop}
 use Rattle.frames.specs.Frames.{Event, fault_line}
 use Rattle.frames.specs.Reader.{fresh}
 use Rattle.terminal.specs.Terminal.{Lines}
 use Rattle.limits.specs.Limits.{most_numbers, longest_line}
 use Rattle.terminal.specs.Going.{goes, at_end}
-use Rattle.terminal.specs.declared.Session.{Session}
-use Rattle.terminal.specs.declared.Session.TheVariants as session
-use Rattle.terminal.specs.declared.Ran.{Ran}
-use Rattle.terminal.specs.declared.Ran.TheVariants as ran
 
 abbrev pub opened : Session
-opened = session.Reading fresh
+opened = Some fresh
 
 -- ---- what is written
 -- the lines of some events stand at the front of the buffer, in so many bytes; the others keep their values
@@ -49,16 +49,16 @@ pub record TooLittle (f g : List ℤ) (chunk before : List ℕ) (f' g' : List �
   pub second_kept : g' ≡ g
   pub out_kept : after ≡ before
 
-abbrev pub Runs : Session → List ℤ → List ℤ → List ℕ → List ℕ → List ℤ → List ℤ → List ℕ → Ran → Type 0
-Runs s f g chunk before f' g' after (ran.Done s' len) = Done s f g chunk before f' g' after s' len
-Runs s f g chunk before f' g' after ran.Short = TooLittle f g chunk before f' g' after
+abbrev pub Runs : Session → List ℤ → List ℤ → List ℕ → List ℕ → List ℤ → List ℤ → List ℕ → Result Ran Short → Type 0
+Runs s f g chunk before f' g' after (Ok r) = Done s f g chunk before f' g' after r.session r.len
+Runs s f g chunk before f' g' after (Err _) = TooLittle f g chunk before f' g' after
 
 -- ---- `finish`
 pub record Ended (s : Session) (before after : List ℕ) (s' : Session) (len : ℕ) : Type 0 where
   pub lent : length fault_line ≤ length before
-  pub over : s' ≡ session.Over
+  pub over : s' ≡ None
   pub wrote : Wrote (at_end s) before after len
 
-abbrev pub Finishes : Session → List ℕ → List ℕ → Ran → Type 0
-Finishes s before after (ran.Done s' len) = Ended s before after s' len
-Finishes s before after ran.Short = (¬ (length fault_line ≤ length before)) × (after ≡ before)
+abbrev pub Finishes : Session → List ℕ → List ℕ → Result Ran Short → Type 0
+Finishes s before after (Ok r) = Ended s before after r.session r.len
+Finishes s before after (Err _) = (¬ (length fault_line ≤ length before)) × (after ≡ before)

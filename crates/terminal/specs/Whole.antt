@@ -1,4 +1,6 @@
 -- However an input is cut into chunks, what the calls write, one after the other, is the output of the whole input.
+use Rattle.std.specs.Prelude.{Ok}
+use Rattle.terminal.specs.Going.{Session}
 use Rattle.std.specs.Prelude.{◌≡◌, ℕ, ℤ, take}
 use mathlib.Core.List.{List, [], ◌∷◌, ◌++◌, flatten, append_assoc}
 use Rattle.frames.specs.Frames.{Event}
@@ -7,8 +9,6 @@ use Rattle.frames.specs.Whole.{from_start}
 use Rattle.terminal.specs.Terminal.{Lines, Output}
 use Rattle.terminal.specs.Going.{goes, events_from, events_after, chunk_events, end_events}
 use Rattle.terminal.specs.Running.{opened, Runs, Finishes}
-use Rattle.terminal.specs.declared.Session.{Session}
-use Rattle.terminal.specs.declared.Ran.TheVariants as ran
 
 -- ---- a run: `open`, a call of `run` for each chunk in order, `finish`
 -- one call of `run` that was not refused, with a buffer for its output, and what it wrote
@@ -17,7 +17,7 @@ pub record Called (s : Session) (f g : List ℤ) (chunk : List ℕ) (s' : Sessio
   pub before : List ℕ
   pub after : List ℕ
   pub len : ℕ
-  pub runs : Runs s f g chunk before f' g' after (ran.Done s' len)
+  pub runs : Runs s f g chunk before f' g' after (Ok (record { session = s'; len = len }))
   pub is : written ≡ take len after
 
 -- calls one after the other: each has the session and the drawings' buffers that the last one left
@@ -33,7 +33,7 @@ pub record Finished (s : Session) (written : List ℕ) : Type 0 where
   pub after : List ℕ
   pub len : ℕ
   pub left : Session
-  pub finishes : Finishes s before after (ran.Done left len)
+  pub finishes : Finishes s before after (Ok (record { session = left; len = len }))
   pub is : written ≡ take len after
 
 -- ---- the lines of events followed by events

@@ -1,9 +1,9 @@
 // A chunk, pair by pair.
-ghost use Rattle.terminal.specs.Running.{Lent, Runs};
-ghost use Rattle.terminal.specs.declared.Session.TheVariants as session;
+ghost use Rattle.std.specs.Prelude.{Some};
+ghost use Rattle.terminal.specs.Running.{Lent, Done};
 
+use crate::Ran;
 use crate::reply::reply;
-use crate::{Ran, Session};
 use frames::{Fed, Reader};
 
 pub fn read(
@@ -14,33 +14,35 @@ pub fn read(
     out: &mut [u8],
 ) -> Ran
     requires { Lent first.old second.old chunk.now out.old }
-    ensures { Runs (session.Reading reader)
+    ensures { Done (Some reader)
         first.old second.old chunk.now out.old
-        first.new second.new out.new result }
+        first.new second.new out.new result.session result.len }
 {
     let mut r = reader;
     let mut at = 0;
     let mut len = 0;
     loop {
         match frames::feed(r, chunk, at, first, second) {
-            Fed::More(next) => {
-                return Ran::Done {
-                    session: Session::Reading(next),
+            Ok(Fed::More(next)) => {
+                return Ran {
+                    session: Some(next),
                     len,
                 };
             }
-            Fed::Pair {
-                first: a,
-                second: b,
-                next,
-            } => {
+            Ok(
+                Fed::Pair {
+                    first: a,
+                    second: b,
+                    next,
+                },
+            ) => {
                 len = reply(&first[..a], &second[..b], out, len);
                 at = next;
                 r = frames::start();
             }
-            Fed::Fault => {
-                return Ran::Done {
-                    session: Session::Over,
+            Err(_) => {
+                return Ran {
+                    session: None,
                     len: frames::answer::fault_line(out, len),
                 };
             }

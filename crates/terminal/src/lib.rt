@@ -18,28 +18,26 @@ pub const MOST_AT_END: usize = 3;
 // What a chunk can write beyond its own length: a longest line, whose pair may have been read before, and EF.
 pub const MOST_BEYOND: usize = LONGEST_LINE + MOST_AT_END;
 
-// A run between two chunks.
-#[derive(Clone, Copy)]
-pub enum Session {
-    Reading(frames::Reader),
-    // after EF, or after the end of the input: nothing more is read and nothing written
-    Over,
+// A run between two chunks: the reader, or none after EF or after the end of the input, where nothing more is read and
+// nothing written.
+pub type Session = Option<frames::Reader>;
+
+// The session goes on, and so many bytes are written to the front of the output's buffer.
+#[derive(Clone, Copy, PartialEq, Eq, Debug)]
+pub struct Ran {
+    pub session: Session,
+    pub len: usize,
 }
 
-// What became of a call.
-#[derive(Clone, Copy)]
-pub enum Ran {
-    // the session goes on, and so many bytes are written to the front of the output's buffer
-    Done { session: Session, len: usize },
-    // too little was lent, and nothing is touched
-    Short,
-}
+// Too little was lent, and nothing is touched.
+#[derive(Clone, Copy, PartialEq, Eq, Debug)]
+pub struct Short;
 
 // The beginning of an input.
 pub fn open() -> Session
     ensures { result ≡ opened }
 {
-    Session::Reading(frames::start())
+    Some(frames::start())
 }
 
 // Takes the whole of a chunk and writes the lines of the pairs that it ends, and EF where there is a fault. `first`
@@ -50,46 +48,36 @@ pub fn run(
     first: &mut [i32],
     second: &mut [i32],
     out: &mut [u8],
-) -> Ran
+) -> Result<Ran, Short>
     ensures { Runs session first.old second.old chunk.now out.old
         first.new second.new out.new result }
 {
-    if first.len() < MOST_NUMBERS {
-        return Ran::Short;
-    }
-    if second.len() < MOST_NUMBERS {
-        return Ran::Short;
-    }
-    if out.len() < chunk.len() + MOST_BEYOND {
-        return Ran::Short;
+    if first.len() < MOST_NUMBERS
+        || second.len() < MOST_NUMBERS
+        || out.len() < chunk.len() + MOST_BEYOND
+    {
+        return Err(Short);
     }
     match session {
-        Session::Reading(reader) => read(reader, chunk, first, second, out),
-        Session::Over => Ran::Done {
-            session: Session::Over,
+        Some(reader) => Ok(read(reader, chunk, first, second, out)),
+        None => Ok(Ran {
+            session: None,
             len: 0,
-        },
+        }),
     }
 }
 
 // Is told the end of the input: writes EF where it ends inside a line or after the first frame of a pair. `out` has
 // `MOST_AT_END` bytes at least.
-pub fn finish(session: Session, out: &mut [u8]) -> Ran
+pub fn finish(session: Session, out: &mut [u8]) -> Result<Ran, Short>
     ensures { Finishes session out.old out.new result }
 {
     if out.len() < MOST_AT_END {
-        return Ran::Short;
+        return Err(Short);
     }
-    if let Session::Reading(reader) = session {
-        if frames::fault_at_end(reader) {
-            return Ran::Done {
-                session: Session::Over,
-                len: frames::answer::fault_line(out, 0),
-            };
-        }
-    }
-    Ran::Done {
-        session: Session::Over,
-        len: 0,
-    }
+    let len = match session {
+        Some(reader) if frames::fault_at_end(reader) => frames::answer::fault_line(out, 0),
+        _ => 0,
+    };
+    Ok(Ran { session: None, len })
 }
