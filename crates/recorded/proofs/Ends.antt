@@ -2,7 +2,7 @@
 use Rattle.std.specs.Prelude.{◌≡◌, refl, Bool, true, false, not, cond, List, [], ◌∷◌, ℕ, suc, ◌+◌, ◌-◌, ◌<◌, ◌≤◌, leb, length, drop, take, unwrap_or, Option, Some}
 use Rattle.std.specs.List.{position_from}
 use Rattle.std.proofs.Common.{ap, ◌∙◌, arith, length-drop}
-use Rattle.recorded.specs.Decimals.{blanks, word, word_at, word_start, word_end, first_word, after}
+use Rattle.recorded.specs.Decimals.{blanks, word, word_at, word_start, word_end}
 
 -- ---- the first place that has no blank, and the first that has one
 blank_first : (b : Bool) (k n m : ℕ) (rest : Option ℕ) → unwrap_or rest (k + 1 + n) ≡ k + 1 + m →
@@ -89,16 +89,13 @@ module _ (text : List ℕ) (at : ℕ) (rest : List ℕ) (r : rest ≡ drop at te
   unfolding word_start
   start_is n e = ap (λ (k : ℕ). at + k) (e ∙ ap blanks r)
 
-  pub end_is : (from n : ℕ) → at ≡ word_start text from → n ≡ length (word rest) → at + n ≡ after text from
+  pub end_is : (n : ℕ) → n ≡ length (word rest) → at + n ≡ word_end text at
   unfolding word_end word_at
-  end_is from n s e =
-      ap (λ (k : ℕ). at + k) (e ∙ ap (λ t. length (word t)) r) ∙ ap (λ (k : ℕ). k + length (word (drop k text))) s
+  end_is n e = ap (λ (k : ℕ). at + k) (e ∙ ap (λ t. length (word t)) r)
 
-  pub word_is : (from n : ℕ) → at ≡ word_start text from → n ≡ length (word rest) →
-      take n rest ≡ first_word text from
+  pub word_is : (n : ℕ) → n ≡ length (word rest) → take n rest ≡ word_at text at
   unfolding word_at
-  word_is from n s e =
-      ap (λ (k : ℕ). take k rest) e ∙ word_front rest ∙ ap word (r ∙ ap (λ (k : ℕ). drop k text) s)
+  word_is n e = ap (λ (k : ℕ). take k rest) e ∙ word_front rest ∙ ap word r
 
   pub word_inside : (n : ℕ) → n ≡ length (word rest) → n ≤ length rest
   word_inside n e = omega (arith, e, word_within rest)

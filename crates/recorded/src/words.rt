@@ -1,6 +1,6 @@
 // The words of a text, one after another.
 ghost use Rattle.std.specs.Prelude.{◌≡◌, ◌≤◌, Option, Some, None, pos, length, leb, cond, drop, IfSome};
-ghost use Rattle.recorded.specs.Decimals.{blanks, word, word_start, first_word, after, place, natural, byte, whole};
+ghost use Rattle.recorded.specs.Decimals.{blanks, word, word_at, word_start, word_end, first_word, after, place, natural};
 ghost use Rattle.recorded.specs.Decimals.{all_tell, number_in, Moved};
 ghost use Rattle.recorded.specs.Counted.{fitting, counted_wholes, counted_bytes, list_end, list_in, left_in};
 ghost use Rattle.recorded.specs.Lent.{Holds};
@@ -54,16 +54,24 @@ impl<'a> Words<'a> {
         self.at >= self.text.len()
     }
 
+    // What is left of the word at the place: an empty one where a blank stands there, and at the end.
+    pub fn rest_of_word(&mut self) -> &'a [u8]
+        ensures value { result.now ≡ word_at self.old.text.now self.old.at }
+        ensures place { Moved self.old self.new (word_end self.old.text.now self.old.at) }
+    {
+        let rest = self.rest();
+        let n = word_len(rest);
+        self.at += n;
+        &rest[..n]
+    }
+
     // The next word; an empty one where there is none.
     pub fn word(&mut self) -> &'a [u8]
         ensures value { result.now ≡ first_word self.old.text.now self.old.at }
         ensures place { Moved self.old self.new (after self.old.text.now self.old.at) }
     {
-        self.at += blanks(self.rest());
-        let rest = self.rest();
-        let n = word_len(rest);
-        self.at += n;
-        &rest[..n]
+        self.is_done();
+        self.rest_of_word()
     }
 
     // The number that the next word tells.

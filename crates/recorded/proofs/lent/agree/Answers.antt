@@ -8,8 +8,11 @@ use Rattle.recorded.proofs.lent.agree.Goals as goal
 
 pub returns : goal.returns
 returns c =
+    let a = c.args.a.now in
+    let b = c.args.b.now in
+    let w = c.take_while.ensures in
     count_from_yields_List c.take_while.result c.count.result c.count.ensures.ran
     (YieldsList-from_take_while _ (λ p. eqb p.0 p.1)
-    (YieldsList-at c.take_while.ensures.source (YieldsList-from_zip (YieldsList-from_slice c.args.a.now cc) (YieldsList-from_slice c.args.b.now cc)))
-    c.take_while.ensures.closure c.take_while.ensures.done (λ x b q k. search (rules, tests)))
-    ∙ agreeing_is c.args.a.now c.args.b.now
+    (YieldsList-at w.source (YieldsList-from_zip (YieldsList-from_slice a cc) (YieldsList-from_slice b cc)))
+    w.closure w.done (λ x b q k. search (rules, tests)))
+    ∙ agreeing_is a b

@@ -5,4 +5,5 @@ use Rattle.recorded.proofs.numbers.digits.Goals as goal
 
 pub returns-in_err-m : goal.returns-in_err-m
 returns-in_err-m c =
-    c.from_residual.ensures ∙ no_digit c.args.word.now _ c.loop-c.m c.loop-c-test.true c.loop-c.invariant (search rules)
+    let l = c.loop-c in
+    c.from_residual.ensures ∙ no_digit c.args.word.now _ l.m c.loop-c-test.true l.invariant (search rules)
