@@ -1,38 +1,30 @@
--- From the promises of `pair` and `drawing`, and from what comes back by cells, to the statement of the answer: one
--- law for each return.
-use mathlib.Core.Path.{◌≡◌, refl, sym, ap, subst}
-use mathlib.Core.Bool.{true, false, false≢true}
-use mathlib.Core.Logic.{◌↔◌, inl, inr, by_cases}
-use mathlib.Core.List.{List, [], ◌∷◌}
-use Prim.Native.Nat.{ℕ, ◌*◌, ◌-◌, ◌/◌, ◌%◌, ◌≤◌, ◌<◌}
+-- From the promises of `pair` and `drawing`, and from what comes back by cells, to the statement of the answer, where
+-- none of lines 1 to 8 applies. Where one does, the check finds it alone.
+use mathlib.Core.Path.{◌≡◌, subst}
+use mathlib.Core.Logic.{◌↔◌, inl, inr}
+use mathlib.Core.List.{List}
+use Prim.Native.Nat.{ℕ, ◌/◌, ◌%◌, ◌≤◌, ◌<◌}
 use native.Mathlib.Omega.{arith}
-use native.Mathlib.Decide.{dec_lt}
-use lib.Dec.{leb}
 use lib.IntN.{ℤ}
 use lib.ListN.{length}
 use Rattle.limits.specs.Limits.{all_cells, Roomy}
-use Rattle.outline.specs.Drawing.{corners, Sound, Sees}
-use Rattle.outline.specs.Tells.{is_yes, is_no, most_tells}
+use Rattle.outline.specs.Drawing.{corners, Sees}
 use Rattle.outline.specs.InOrOn.{CentreSees}
-use Rattle.drawing.specs.Sight.{Cell, Seen, Told, Sight}
-use Rattle.drawing.specs.declared.Judged.{Judged}
+use Rattle.drawing.specs.Sight.{Cell, Seen}
 use Rattle.outline.specs.Seeing.{sees_mutual}
-use Rattle.pair.specs.Pair.{Alike, of_drawings, lines, Checks, FirstTold, SecondTold}
+use Rattle.pair.specs.Pair.{Alike, of_drawings, Checks, FirstTold, SecondTold}
 use Rattle.pair.specs.Passing.{SoundPair, equally_many}
 use Rattle.pair.proofs.Passing.{drawings_hold, pair_passes}
 use Rattle.rules.specs.Cutting.{Inner}
 use Rattle.rules.specs.Cells as cells
-use Rattle.rules.specs.Refusals.{line, FirstFailed, Hold, longer, put_in, passed}
+use Rattle.rules.specs.Refusals.{FirstFailed, put_in}
 use Rattle.rules.specs.Result.{Result}
 use Rattle.rules.specs.Agree.{Agree, stars_agree}
 use Rattle.rules.proofs.Agree.{cuttable_same, given_same}
 use Rattle.cutting.specs.Answer as cutting
 use Rattle.cutting.specs.Answer.{MayCut}
-use Rattle.desk.specs.Answer.{InBoth, Cut, plan, of_cutting, asked, Answers, result_of}
-use Rattle.desk.specs.Stages.{asked_of_cells, Shows, Cuts}
-use Rattle.desk.specs.Parts.{Refusal}
-use Rattle.desk.specs.declared.Outcome.{Outcome}
-use Rattle.desk.proofs.Refuses.{refuses}
+use Rattle.desk.specs.Answer.{InBoth, Cut, plan, of_cutting, asked, Answers}
+use Rattle.desk.specs.Stages.{asked_of_cells, Cuts}
 
 -- ---- the cells of both drawings are their sight
 -- the engine reads any cell; of one that tells sight the half is 0 or 1
@@ -98,82 +90,13 @@ module _ {first second : List ℤ} (pair : SoundPair first second) (first_cells 
       last (inr (s, inr (t, inl f))) = inl ((λ d. f.0 ((cuttable_same plans_agree).1 d)), f.1)
       last (inr (s, inr (t, inr f))) = inr ((cuttable_same plans_agree).0 f.0, f.1)
 
--- ---- the answer: lines 1, 2 and 3 to 8
-module _ {first second : List ℤ} (before : List ℕ) {number : ℕ} (checks : Checks first second number) where
-  pub line_1 : (o : Outcome) → Refusal 1 o → number ≡ 1 → Answers first second before (result_of o before)
-  line_1 o made e = refuses o 1 made (omega arith) (go checks.numbered)
-    where
-      -- no later line has this number
-      go : FirstFailed (lines first second) number → FirstFailed (asked first second (length before)) 1
-      go (inl f) = inl (f.0, refl)
-      go (inr f) =
-          let none : number ≡ 0 = (passed (of_drawings first second) [] number (omega arith) f.1).1 in
-          absurd (omega arith)
+-- ---- where none of lines 1 and 3 to 8 applies, both drawings are sound, and their sight is told where there is room
+module _ {first second : List ℤ} {k : ℕ} (checks : Checks first second k) (z : k ≡ 0) where
+  pub sound : SoundPair first second
+  sound = pair_passes first second (subst (Checks first second) z checks)
 
-  -- where line 1 does not apply
-  module _ (n : ¬ (number ≡ 1)) where
-    later : Hold (line 1 (Alike first second) ∷ []) × FirstFailed (of_drawings first second) number
-    later = passed (line 1 (Alike first second) ∷ []) (of_drawings first second) number (n, tt) checks.numbered
+  pub first_seen : {o a : List ℕ} → length o ≡ all_cells → FirstTold first second o a → Seen first o a
+  first_seen e t = (t.told sound.alike sound.first_sound).seen (omega arith)
 
-    pub alike : Alike first second
-    alike = later.0.0
-
-    pub line_2 : (o : Outcome) → Refusal 2 o → length before < 5 * corners first - 10 →
-        Answers first second before (result_of o before)
-    line_2 o made lt = refuses o 2 made (omega arith) (inr (alike, inl (λ h. omega arith, refl)))
-
-    pub lines_3_to_8 : (o : Outcome) → Refusal number o → ¬ (number ≡ 0) → Roomy (corners first) (length before) →
-        Answers first second before (result_of o before)
-    lines_3_to_8 o made z h =
-        let lt : 0 < number = omega arith in
-        refuses o number made lt
-        (inr (alike, inr (h, longer (of_drawings first second) (of_cutting first second) number lt later.1)))
-
-  -- where none applies: both drawings are sound, and their sight is told where there is room
-  module _ (z : number ≡ 0) where
-    pub sound : SoundPair first second
-    sound = pair_passes first second (subst (Checks first second) z checks)
-
-    pub first_seen : {o a : List ℕ} → length o ≡ all_cells → FirstTold first second o a → Seen first o a
-    first_seen e t = (t.told sound.alike sound.first_sound).seen (omega arith)
-
-    pub second_seen : {o a : List ℕ} → length o ≡ all_cells → SecondTold second number o a → Seen second o a
-    second_seen e t = (t.told z).seen (omega arith)
-
--- ---- the sight of a drawing by itself: by what is told of it
-module _ {d : List ℤ} {o a : List ℕ} {r : Judged} (t : Sight d o a r) where
-  pub not_shown : ¬ Sound d → Shows d o a false
-  not_shown n = record {
-    served = (λ e. absurd (false≢true e), λ h. absurd (n h.0));
-    seen = λ e. absurd (false≢true e);
-    refused = λ _. t.refused n;
-  }
-
-  -- a sound one, where there is room: the cells are as many as before
-  pub shown : Sound d → Shows d o a (leb all_cells (length a))
-  shown s = by_cases (dec_lt (length o) all_cells) short roomy
-    where
-      told : Told d o a
-      told = t.sound s
-
-      short : length o < all_cells → Shows d o a (leb all_cells (length a))
-      short h =
-          let e = told.short h in
-          let n : leb all_cells (length a) ≡ false = is_no (most_tells all_cells (length a))
-          (λ l. omega (arith, l, h, ap length e)) in
-          rw n (record {
-            served = (λ f. absurd (false≢true f), λ p. absurd (omega (arith, p.1, h)));
-            seen = λ f. absurd (false≢true f);
-            refused = λ _. e;
-          })
-
-      roomy : ¬ (length o < all_cells) → Shows d o a (leb all_cells (length a))
-      roomy n =
-          let seen = told.seen (omega arith) in
-          let y : leb all_cells (length a) ≡ true = is_yes (most_tells all_cells (length a))
-          (omega (arith, n, seen.size)) in
-          rw y (record {
-            served = (λ _. (s, omega arith), λ _. refl);
-            seen = λ _. seen;
-            refused = λ f. absurd (false≢true (sym f));
-          })
+  pub second_seen : {o a : List ℕ} → length o ≡ all_cells → SecondTold second k o a → Seen second o a
+  second_seen e t = (t.told z).seen (omega arith)

@@ -1,3 +1,2 @@
-pub mod Refuses
 pub mod Cutting
 pub mod Laws

@@ -2,16 +2,21 @@
 -- that the desk is proved against, and what a reader has to believe, with the definitions of `outline` (a sound
 -- drawing, the two kinds of sight), of `pair` (what is asked of two drawings) and of `rules` (cuttings, the one that
 -- comes first, the layout of its bytes, numbered lines, what comes back).
-use Rattle.std.specs.Prelude.{List, [], ◌∷◌, ◌++◌, ℕ, ℤ, length}
+use Rattle.std.specs.Prelude.{List, [], ◌∷◌, ◌++◌, ℕ, ℤ, length, Ok, Err}
+use Rattle.std.specs.Prelude as std
 use Rattle.limits.specs.Limits.{Roomy}
 use Rattle.outline.specs.Drawing.{corners, Sees}
 use Rattle.outline.specs.InOrOn.{CentreSees}
 use Rattle.pair.specs.Pair.{Alike, of_drawings}
+use Rattle.pair.specs.Pair as pair
 use Rattle.rules.specs.Cutting.{Pairs}
 use Rattle.rules.specs.Refusals.{Line, line}
 use Rattle.rules.specs.Plan.{Plan, stars, ValidBy, FirstBy, Cuttable}
 use Rattle.rules.specs.Result.{Result, ComesBack}
+use Rattle.telling.specs.declared.Told.{Told}
 use Rattle.desk.specs.declared.Outcome.{Outcome}
+use Rattle.desk.specs.declared.Refusal.{Refusal}
+use Rattle.desk.specs.declared.Refusal.TheVariants.{Pair, Room, NoCutting}
 
 -- ---- 01, "Cuttings", of two drawings. There are two kinds of sight since 02, K3: "for a centre, sight holds when
 -- every point of the segment lies in or on the outline. A cut keeps the strict rule."
@@ -58,6 +63,22 @@ abbrev pub Answers : List ℤ → List ℤ → List ℕ → Result → Type 0
 Answers first second before r =
     ComesBack (asked first second (length before)) (plan first second) (corners first) before r
 
--- what a call returns and the buffer after it, as 01's result
-abbrev pub result_of : Outcome → List ℕ → Result
-result_of o after = record { number = o.number; count = o.pieces; bytes = o.bytes; after = after }
+-- ---- 01's number for each refusal, and number and values for each case: what a call returns and the buffer after it,
+-- as 01's result
+abbrev pub number : Refusal → ℕ
+number (Pair refusal) = pair.number refusal
+number Room = 2
+number NoCutting = 9
+
+abbrev pub result_of : std.Result Told Refusal → List ℕ → Result
+result_of (Ok told) after = record { number = 0; count = told.pieces; bytes = told.bytes; after = after }
+result_of (Err refusal) after = record { number = number refusal; count = 0; bytes = 0; after = after }
+
+-- the same of what a call for C returns
+abbrev pub for_c : Outcome → List ℕ → Result
+for_c o after = record { number = o.number; count = o.pieces; bytes = o.bytes; after = after }
+
+-- what such a call returns for each case
+abbrev pub outcome_of : std.Result Told Refusal → Outcome
+outcome_of (Ok told) = record { number = 0; pieces = told.pieces; bytes = told.bytes }
+outcome_of (Err refusal) = record { number = number refusal; pieces = 0; bytes = 0 }

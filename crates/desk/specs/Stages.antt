@@ -1,5 +1,6 @@
 -- The promises of the stages under C names.
-use Rattle.std.specs.Prelude.{◌≡◌, refl, Bool, true, false, ◌↔◌, List, [], ◌∷◌, ℕ, ◌≤◌, ℤ, length}
+use Rattle.std.specs.Prelude.{◌≡◌, refl, Bool, true, false, ◌↔◌, List, [], ◌∷◌, ℕ, ◌≤◌, ℤ, length, ⊤}
+use Rattle.std.specs.Prelude as std
 use Rattle.std.proofs.Common.{sym, ap, ◌∙◌}
 use Rattle.std.proofs.lemmas.Bool.{false≢true}
 use Rattle.limits.specs.Limits.{fewest_corners, most_corners, all_cells, Roomy}
@@ -8,7 +9,7 @@ use Rattle.drawing.specs.Judgement.{Judgement, first_number}
 use Rattle.drawing.specs.Judging.{judge_unique}
 use Rattle.drawing.specs.Sight.{Seen}
 use Rattle.drawing.specs.Seen.{seen_unique}
-use Rattle.drawing.specs.declared.Judged.{Judged}
+use Rattle.drawing.specs.declared.Unsound.{Unsound}
 use Rattle.rules.specs.Cells.{InBoth}
 use Rattle.rules.specs.Refusals.{Line, line}
 use Rattle.rules.specs.Plan.{Cuttable, stars_one}
@@ -18,7 +19,7 @@ use Rattle.cutting.specs.Answer.{MayCut, plan}
 
 -- ---- the judgement: 01's number for a first drawing
 pub record JudgesFirst (xy : List ℤ) (number : ℕ) : Type 0 where
-  pub judged : Judged
+  pub judged : std.Result ⊤ Unsound
   pub judgement : Judgement xy judged
   pub says : number ≡ first_number judged
 

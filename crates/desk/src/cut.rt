@@ -2,72 +2,76 @@
 //
 //     first, second  --search-->  pairs  --tell-->  room
 //     who sees whom               the cuts          01's bytes
-ghost use Rattle.std.specs.Prelude.{◌≡◌, length};
+ghost use Rattle.std.specs.Prelude.{◌≡◌, Err, length};
 ghost use Rattle.limits.specs.Limits.{all_cells, Roomy};
 ghost use Rattle.outline.specs.Tells.{Tells};
-ghost use Rattle.desk.specs.Answer.{result_of};
+ghost use Rattle.cutting.specs.Answer as cutting;
+ghost use Rattle.telling.specs.Answer as telling;
+ghost use Rattle.desk.specs.Answer.{number, result_of};
 ghost use Rattle.desk.specs.Stages.{Served, Cuts};
-ghost use Rattle.desk.specs.Parts.{FirstMarked};
 
-use crate::{Outcome, refused};
-use cutting::Searched;
+use crate::Refusal;
 use limits::{ALL_CELLS, FEWEST_CORNERS, MOST_CORNERS};
 use telling::Told;
+
+// What is asked of cells is what the pair's own first line asks of drawings.
+impl From<cutting::Refusal> for Refusal {
+    ghost from_gives = { λ refusal r. number r ≡ cutting.number (Err refusal) };
+
+    fn from(refusal: cutting::Refusal) -> Refusal {
+        match refusal {
+            cutting::Refusal::Unserved => Refusal::Pair(pair::Refusal::Unlike),
+            cutting::Refusal::NoCutting => Refusal::NoCutting,
+        }
+    }
+}
+
+impl From<telling::Refusal> for Refusal {
+    ghost from_gives = { λ refusal r. number r ≡ telling.number refusal };
+
+    fn from(refusal: telling::Refusal) -> Refusal {
+        match refusal {
+            telling::Refusal::Unserved => Refusal::Pair(pair::Refusal::Unlike),
+            telling::Refusal::Short => Refusal::Room,
+        }
+    }
+}
 
 // Whether n and both arrays of cells are within the limits.
 fn served(n: usize, first: &[u8], second: &[u8]) -> bool
     ensures { Tells result (Served n first.now second.now) }
 {
-    if n < FEWEST_CORNERS {
-        return false;
-    }
-    if n > MOST_CORNERS {
-        return false;
-    }
-    if first.len() < ALL_CELLS {
-        return false;
-    }
-    second.len() >= ALL_CELLS
+    FEWEST_CORNERS <= n
+        && n <= MOST_CORNERS
+        && first.len() >= ALL_CELLS
+        && second.len() >= ALL_CELLS
 }
 
-// The cutting that stands in `pairs` is told.
-fn tell(n: usize, pairs: &[u8], first: &[u8], second: &[u8], room: &mut [u8]) -> Outcome
-    requires { FirstMarked n first.now second.now pairs.now × Roomy n (length room.old) }
-    ensures { Cuts n first.now second.now room.old (result_of result room.new) }
-{
-    match telling::tell(n, pairs, first, second, room) {
-        Told::Unserved => unreachable!(),
-        Told::Short => unreachable!(),
-        Told::Pieces { pieces, bytes } => Outcome {
-            number: 0,
-            pieces: pieces,
-            bytes: bytes,
-        },
-    }
-}
-
-// The cutting is searched for.
-fn search(n: usize, first: &[u8], second: &[u8], pairs: &mut [u8], room: &mut [u8]) -> Outcome
+// The cutting is searched for, and told.
+fn search(
+    n: usize,
+    first: &[u8],
+    second: &[u8],
+    pairs: &mut [u8],
+    room: &mut [u8],
+) -> Result<Told, Refusal>
     requires { Served n first.now second.now × Roomy n (length room.old) × (length pairs.old ≡ all_cells) }
     ensures { Cuts n first.now second.now room.old (result_of result room.new) }
 {
-    match cutting::search(n, first, second, pairs) {
-        Searched::Unserved => unreachable!(),
-        Searched::NoCutting => refused(9),
-        Searched::Found => tell(n, pairs, first, second, room),
-    }
+    cutting::search(n, first, second, pairs)?;
+    Ok(telling::tell(n, pairs, first, second, room)?)
 }
 
-// The answer by the cells of two drawings: 1 where n or the cells are not within the limits, 2 where the room is too
-// small, 9, or 0 and the bytes. The cuts stand in this function's frame.
-pub fn cut(n: usize, first: &[u8], second: &[u8], room: &mut [u8]) -> Outcome
+// The answer by the cells of two drawings: line 1 of 01's table where n or the cells are not within the limits, 2
+// where the room is too small, 9, or what was told. The cuts stand in this function's frame.
+pub fn cut(n: usize, first: &[u8], second: &[u8], room: &mut [u8]) -> Result<Told, Refusal>
     ensures { Cuts n first.now second.now room.old (result_of result room.new) }
 {
     if !served(n, first, second) {
-        return refused(1);
+        return Err(Refusal::Pair(pair::Refusal::Unlike));
     }
     if room.len() < 5 * n - 10 {
-        return refused(2);
+        return Err(Refusal::Room);
     }
     let mut pairs = [0u8; ALL_CELLS];
     search(n, first, second, &mut pairs, room)

@@ -1,12 +1,11 @@
 // The stages of the answer under their C names: the judgement of a drawing, its sight, the cutting from the sight of
 // two. `answer` joins them; here each can be run and measured by itself. Crate `desk_c` exports them, in the archive
 // that has the whole.
-ghost use Rattle.desk.specs.Answer.{result_of};
+ghost use Rattle.desk.specs.Answer.{for_c};
 ghost use Rattle.desk.specs.Stages.{JudgesFirst, Shows, Cuts};
 
 use crate::Outcome;
 use crate::cut::cut;
-use drawing::Judged;
 use limits::ALL_CELLS;
 use pair::Which;
 
@@ -21,18 +20,12 @@ pub fn iravikkon_judge(xy: &[i32]) -> u8
 pub fn iravikkon_sight(xy: &[i32], cells: &mut [u8]) -> bool
     ensures { Shows xy.now cells.old cells.new result }
 {
-    match drawing::sight(xy, cells) {
-        Judged::Misshapen => false,
-        Judged::OutOfRange => false,
-        Judged::NotSimple => false,
-        Judged::NotAnticlockwise => false,
-        Judged::Sound => cells.len() >= ALL_CELLS,
-    }
+    drawing::sight(xy, cells).is_ok() && cells.len() >= ALL_CELLS
 }
 
 // `cut` for C.
 pub fn iravikkon_cut(n: usize, first: &[u8], second: &[u8], answer: &mut [u8]) -> Outcome
-    ensures { Cuts n first.now second.now answer.old (result_of result answer.new) }
+    ensures { Cuts n first.now second.now answer.old (for_c result answer.new) }
 {
-    cut(n, first, second, answer)
+    Outcome::from(cut(n, first, second, answer))
 }

@@ -3,7 +3,7 @@
 // that name in `desk`, and states its clauses again.
 #![tactic(auto)]
 
-ghost use Rattle.desk.specs.Answer.{Answers, result_of};
+ghost use Rattle.desk.specs.Answer.{Answers, for_c};
 ghost use Rattle.desk.specs.Stages.{JudgesFirst, Shows, Cuts};
 
 use desk::Outcome;
@@ -11,7 +11,7 @@ use desk::Outcome;
 // `desk::answer` for C.
 #[unsafe(no_mangle)]
 pub extern "C" fn iravikkon_answer(first: &[i32], second: &[i32], room: &mut [u8]) -> Outcome
-    ensures { Answers first.now second.now room.old (result_of result room.new) }
+    ensures { Answers first.now second.now room.old (for_c result room.new) }
 {
     desk::iravikkon_answer(first, second, room)
 }
@@ -35,7 +35,7 @@ pub extern "C" fn iravikkon_sight(xy: &[i32], cells: &mut [u8]) -> bool
 // The search and the telling for C, from the cells of two drawings.
 #[unsafe(no_mangle)]
 pub extern "C" fn iravikkon_cut(n: usize, first: &[u8], second: &[u8], answer: &mut [u8]) -> Outcome
-    ensures { Cuts n first.now second.now answer.old (result_of result answer.new) }
+    ensures { Cuts n first.now second.now answer.old (for_c result answer.new) }
 {
     desk::stages::iravikkon_cut(n, first, second, answer)
 }
