@@ -1,7 +1,10 @@
 -- Signed numbers of the machine: what a comparison of two of them tells, coordinates as they are read and held, and
 -- that the products of their differences fit.
 use mathlib.Core.Path.{◌≡◌, refl, sym, ap, ◌∙◌, subst}
-use mathlib.Core.Bool.{Bool, true, false}
+use mathlib.Core.Bool.{Bool, true, false, not, ◌&&◌}
+use Rattle.std.specs.Bool.{MatchBool, Decides}
+use Rattle.std.specs.List.{range_with_len, AllWithin, HoldsAt}
+use Rattle.std.proofs.lemmas.List.FromFn.{length-range_with_len, get_or-range_with_len}
 use mathlib.Core.Logic.{◌⊎◌, inl, inr}
 use mathlib.Core.List.{List}
 use Prim.Native.Nat.{ℕ, ◌+◌, ◌*◌, ◌^◌, ◌≤◌, ◌<◌}
@@ -19,11 +22,14 @@ use Rattle.whole.specs.Masks.{Digit, Made, made_room}
 use Rattle.whole.specs.Bounds.{Val, fit, par, loc, less, times, near_of}
 use Rattle.limits.specs.Limits.{furthest}
 use Rattle.outline.specs.Drawing.{Point, InRange, turn_of}
-use Rattle.outline.specs.Segments.{Dot}
+use Rattle.outline.specs.Segments.{Dot, point_eq}
+use Rattle.std.specs.Ordering.{int_eq}
+use Rattle.std.proofs.lemmas.Bool.{false≢true}
+use Rattle.std.proofs.lemmas.Bool.Decides.{Decides-int_eq}
 use Rattle.drawing.specs.Meeting.{Reached, Meets}
 use Rattle.drawing.specs.declared.segment.Met.{Met}
-use Rattle.outline.specs.Tells.{Tells, as_well, eq_tells}
-use Rattle.drawing.specs.Parts.{Close}
+use Rattle.outline.specs.Tells.{Tells, as_well, eq_tells, surely, never, if_yes, if_no, and_tells, or_tells, not_tells}
+use Rattle.drawing.specs.Parts.{point, Close}
 use Rattle.drawing.specs.Away.{Far}
 use Rattle.drawing.specs.declared.segment.Place.{Place}
 
@@ -50,6 +56,10 @@ same_bits p q e = sym p ∙ ap (to_z w64) e ∙ q
 pub by_nought : {r x : ℤ} → mag r < 2 ^ 63 → r ≡ x → Tells (eqb (of_z w64 r) 0) (x ≡ pos 0)
 by_nought {r} ok is =
     as_well (eq_tells (of_z w64 r) 0) (λ e. same_bits (held ok is) refl e) (λ e. ap (of_z w64) (is ∙ e))
+
+-- a result that is known is not above zero
+pub by_le_nought : {r x : ℤ} → mag r < 2 ^ 63 → r ≡ x → Tells (le_z (back r) (pos 0)) (x ≤ℤ pos 0)
+by_le_nought ok is = by_le (held ok is) refl (λ h. h) (λ h. h)
 
 -- a coordinate of a list, read
 abbrev pub Coordinate : List ℤ → ℕ → Type 0
@@ -107,6 +117,45 @@ module _ {a b c d p q r s : Point} (e : a ≡ p) (f : b ≡ q) (g : c ≡ r) (h 
 
   pub meets_as : (w : Met) → Meets a b c d w → Meets p q r s w
   meets_as w x = subst (λ z. z) (λ i. Meets (e i) (f i) (g i) (h i) w) x
+
+-- ---- `||` and `&&`, by the branch that ran: the value is the first test's, or the second's
+module _ {v a : Bool} {P Q : Type 0} (first : Tells a P) where
+  pub or_first : v ≡ a → a ≡ true → Tells v (P ⊎ Q)
+  or_first is e = rw is (rw e (surely (inl (if_yes first e))))
+
+  pub and_first : v ≡ a → a ≡ false → Tells v (P × Q)
+  and_first is e = rw is (rw e (never (λ h. if_no first e h.0)))
+
+  module _ {b : Bool} (second : Tells b Q) where
+    pub or_second : v ≡ b → a ≡ false → Tells v (P ⊎ Q)
+    or_second is e = rw is (or_tells (never (if_no first e)) second)
+
+    pub and_second : v ≡ b → a ≡ true → Tells v (P × Q)
+    and_second is e = rw is (and_tells (surely (if_yes first e)) second)
+
+-- two places are compared coordinate by coordinate
+by_decides : {b : Bool} {P : Type 0} → Decides b P → Tells b P
+by_decides {b = true} d = surely (d.0 refl)
+by_decides {b = false} d = never (λ p. absurd (false≢true (d.1 p)))
+
+pub differ_tells : (p q : Place) → Tells (not (int_eq p.x q.x && int_eq p.y q.y)) (¬ (point p ≡ point q))
+differ_tells p q =
+    not_tells (as_well
+    (and_tells (by_decides (Decides-int_eq p.x q.x)) (by_decides (Decides-int_eq p.y q.y)))
+    (λ h. point_eq h.0 h.1) (λ e. (ap (λ (z : Point). z.x) e, ap (λ (z : Point). z.y) e)))
+
+-- every number below n passes, or one fails
+pub all_tell : {r : Bool} {P : ℕ → Type 0} (n : ℕ) →
+    MatchBool r (AllWithin P (range_with_len 0 n) 0 (length (range_with_len 0 n)))
+    ((k : ℕ) × (k < length (range_with_len 0 n)) × HoldsAt (λ i. ¬ P i) (range_with_len 0 n) k) →
+    Tells r ((i : ℕ) → i < n → P i)
+all_tell {r = true} {P} n all =
+    surely (λ i l. let e : get_or (range_with_len 0 n) i 0 ≡ i = omega (arith, get_or-range_with_len 0 n i 0 l) in
+    subst P e (all i 0 (omega arith) (omega (arith, l, length-range_with_len 0 n))))
+all_tell {r = false} {P} n w =
+    let l : w.0 < n = omega (arith, w.1, length-range_with_len 0 n) in
+    let e : w.0 ≡ get_or (range_with_len 0 n) w.0 0 = omega (arith, get_or-range_with_len 0 n w.0 0 l) in
+    never (λ f. w.2 0 (subst P e (f w.0 l)))
 
 -- ---- a test as a digit of a mask
 pub digit_small : (b : Bool) → bool_byte b < 2

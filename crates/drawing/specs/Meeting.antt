@@ -1,11 +1,11 @@
 -- How the segment ab meets cd, told by the turns of c and d from ab, where the line of cd is known not to have a and b
 -- on one side.
-use Rattle.std.specs.Prelude.{◌≡◌, ◌⊎◌, ℤ, pos, ◌<ℤ◌}
+use Rattle.std.specs.Prelude.{◌≡◌, ◌⊎◌, ℤ, pos, ◌≤ℤ◌, ◌<ℤ◌}
 use Rattle.std.proofs.Common.{sym, subst, inl, inr}
 use Rattle.std.specs.Int.Signed.{clash_ℤ}
 use Rattle.whole.specs.Order.{Sign, plus, nought, minus, sign, below, <ℤ_le}
 use Rattle.outline.specs.Drawing.{Point, turn_of, Shared}
-use Rattle.outline.specs.Segments.{OneSide, Apart, apart_off}
+use Rattle.outline.specs.Segments.{OneSide, Dot, Apart, apart_off}
 use Rattle.outline.specs.Quick.{Touch, quick_sound, quick_complete}
 use Rattle.drawing.specs.declared.segment.Met.{Met}
 use Rattle.drawing.specs.declared.segment.Met.TheVariants as is
@@ -13,6 +13,10 @@ use Rattle.drawing.specs.declared.segment.Met.TheVariants as is
 -- the line of cd does not have a and b on one side
 pub record Reached (a b c d : Point) : Type 0 where
   pub not_aside : ¬ OneSide (turn_of c d a) (turn_of c d b)
+
+-- of points on one line, an end of cd lies on ab
+abbrev pub AnEndOn : Point → Point → Point → Point → Type 0
+AnEndOn a b c d = (Dot c a b ≤ℤ pos 0) ⊎ (Dot d a b ≤ℤ pos 0)
 
 -- ab and cd share no point; they share one, and c and d are strictly apart about the line ab; or else ab touches cd,
 -- at an end or along it

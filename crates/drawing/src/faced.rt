@@ -27,7 +27,7 @@ pub fn angles(known: [Known; MOST_CORNERS], n: usize) -> Bends
         two = two * 2 + (need == 2) as u64;
         one = one * 2 + (need == 1) as u64;
     }
-    Bends { two: two, one: one }
+    Bends { two, one }
 }
 
 // The corners that have another inside the angle: the sides that other lies left of are `left`.

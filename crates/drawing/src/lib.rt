@@ -62,8 +62,7 @@ fn tell(xy: &[i32], cells: &mut [u8])
     requires { Sound xy.now }
     ensures { Told xy.now cells.old cells.new }
 {
-    if cells.len() < ALL_CELLS {
-        return;
+    if cells.len() >= ALL_CELLS {
+        table::fill(xy, cells);
     }
-    table::fill(xy, cells);
 }

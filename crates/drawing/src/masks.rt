@@ -74,12 +74,12 @@ fn know(xy: &[i32], i: usize) -> Known
     let along = flat ^ before ^ after;
     let need = need(xy, i);
     Known {
-        left: left,
+        left,
         right: all ^ left ^ flat,
-        along: along,
-        low: low,
-        west: west,
-        need: need,
+        along,
+        low,
+        west,
+        need,
     }
 }
 

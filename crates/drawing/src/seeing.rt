@@ -59,10 +59,7 @@ fn to_look_at(xy: &[i32], i: usize, a: Known, j: usize, b: Known) -> u64
 fn reach(p: i64, first: u64, q: i64, second: u64) -> u64
     ensures { Reaches p first q second result }
 {
-    if p == q {
-        return u64::MAX;
-    }
-    first | second
+    if p == q { u64::MAX } else { first | second }
 }
 
 // Corner j, which lies left of the sides that `left` marks, is inside the angle at corner i: left of as many of the
@@ -120,10 +117,7 @@ fn touched(xy: &[i32], i: usize, j: usize, k: usize) -> usize
     requires k_bound { (k < corners xy.now) × TouchedSide xy.now i j k }
     ensures { GrazedBy xy.now i j result }
 {
-    if lies_on(xy, k, i, j) {
-        return k;
-    }
-    next(xy, k)
+    if lies_on(xy, k, i, j) { k } else { next(xy, k) }
 }
 
 // Corner k lies on the segment ij.
@@ -134,9 +128,5 @@ pub fn lies_on(xy: &[i32], k: usize, i: usize, j: usize) -> bool
     let a = corner(xy, i);
     let b = corner(xy, j);
     let c = corner(xy, k);
-    if turn(a, b, c) == 0 {
-        dot(c, a, b) <= 0
-    } else {
-        false
-    }
+    turn(a, b, c) == 0 && dot(c, a, b) <= 0
 }

@@ -4,18 +4,18 @@ ghost use Rattle.outline.specs.Drawing.{turn_of, Shared, SharedOnlyAt};
 ghost use Rattle.outline.specs.Tells.{Tells};
 ghost use Rattle.outline.specs.Segments.{Dot, OneSide};
 ghost use Rattle.outline.specs.Quick.{Touch};
-ghost use Rattle.drawing.specs.Meeting.{Reached, Meets};
+ghost use Rattle.drawing.specs.Meeting.{AnEndOn, Reached, Meets};
 ghost use Rattle.outline.specs.FarApart.{Beyond, FarApart};
 ghost use Rattle.drawing.specs.Parts.{point, Close};
 
-#[derive(Clone, Copy)]
+#[derive(Clone, Copy, PartialEq, Eq)]
 pub struct Place {
     pub x: i64,
     pub y: i64,
 }
 
 // How a segment meets another: not at all; at an end of the other, or along it; across it.
-#[derive(Clone, Copy)]
+#[derive(Clone, Copy, PartialEq, Eq)]
 pub enum Met {
     Missed,
     Touched,
@@ -38,28 +38,20 @@ pub fn dot(z: Place, u: Place, w: Place) -> i64
     (u.x - z.x) * (w.x - z.x) + (u.y - z.y) * (w.y - z.y)
 }
 
-pub fn same(a: Place, b: Place) -> bool
-    requires { Close (point a) × Close (point b) }
-    ensures { Tells result (point a ≡ point b) }
-{
-    if a.x != b.x {
-        return false;
-    }
-    a.y == b.y
-}
-
 // Two turns of one line: both strictly left of it, or both strictly right. No branch asks for the sign of one of
 // them, which nothing foretells.
 fn one_side(s: i64, t: i64) -> bool
     ensures { Tells result (OneSide s t) }
 {
-    if s == 0 {
-        return false;
-    }
-    if t == 0 {
-        return false;
-    }
-    (s > 0) == (t > 0)
+    s != 0 && t != 0 && (s > 0) == (t > 0)
+}
+
+// Of four points on one line, an end of the segment c d lies on a b.
+fn an_end_on(a: Place, b: Place, c: Place, d: Place) -> bool
+    requires { Close (point a) × Close (point b) × Close (point c) × Close (point d) }
+    ensures { Tells result (AnEndOn (point a) (point b) (point c) (point d)) }
+{
+    dot(c, a, b) <= 0 || dot(d, a, b) <= 0
 }
 
 // Of four points on one line, an end of one segment lies on the other.
@@ -67,16 +59,7 @@ fn touch(a: Place, b: Place, c: Place, d: Place) -> bool
     requires { Close (point a) × Close (point b) × Close (point c) × Close (point d) }
     ensures { Tells result (Touch (point a) (point b) (point c) (point d)) }
 {
-    if dot(c, a, b) <= 0 {
-        return true;
-    }
-    if dot(d, a, b) <= 0 {
-        return true;
-    }
-    if dot(a, c, d) <= 0 {
-        return true;
-    }
-    dot(b, c, d) <= 0
+    an_end_on(a, b, c, d) || an_end_on(c, d, a, b)
 }
 
 // How the segment a b meets c d. That the line of c d does not have a and b strictly on one side is known.
@@ -107,10 +90,7 @@ pub fn meet(a: Place, b: Place, c: Place, d: Place) -> Met
 fn beyond(a: i64, b: i64, c: i64, d: i64) -> bool
     ensures { Tells result (Beyond a b c d) }
 {
-    if ((c < a) & (c < b)) & ((d < a) & (d < b)) {
-        return true;
-    }
-    ((a < c) & (b < c)) & ((a < d) & (b < d))
+    ((c < a) & (c < b)) & ((d < a) & (d < b)) || ((a < c) & (b < c)) & ((a < d) & (b < d))
 }
 
 // The extents of the segments a b and c d do not overlap. No product is formed.
@@ -118,10 +98,7 @@ fn far_apart(a: Place, b: Place, c: Place, d: Place) -> bool
     requires { Close (point a) × Close (point b) × Close (point c) × Close (point d) }
     ensures { Tells result (FarApart (point a) (point b) (point c) (point d)) }
 {
-    if beyond(a.x, b.x, c.x, d.x) {
-        return true;
-    }
-    beyond(a.y, b.y, c.y, d.y)
+    beyond(a.x, b.x, c.x, d.x) || beyond(a.y, b.y, c.y, d.y)
 }
 
 // The segments a b and c d share a point: extents first, and products only where they overlap.
@@ -129,17 +106,9 @@ pub fn share(a: Place, b: Place, c: Place, d: Place) -> bool
     requires { Close (point a) × Close (point b) × Close (point c) × Close (point d) }
     ensures { Tells result (Shared (point a) (point b) (point c) (point d)) }
 {
-    if far_apart(a, b, c, d) {
-        return false;
-    }
-    if one_side(turn(a, b, c), turn(a, b, d)) {
-        return false;
-    }
-    match meet(c, d, a, b) {
-        Met::Missed => false,
-        Met::Touched => true,
-        Met::Crossed => true,
-    }
+    !far_apart(a, b, c, d)
+        && !one_side(turn(a, b, c), turn(a, b, d))
+        && meet(c, d, a, b) != Met::Missed
 }
 
 // The segments e a and e c share only e.
@@ -147,9 +116,5 @@ pub fn only_end(e: Place, a: Place, c: Place) -> bool
     requires { Close (point e) × Close (point a) × Close (point c) }
     ensures { Tells result (SharedOnlyAt (point e) (point e) (point a) (point e) (point c)) }
 {
-    if turn(e, a, c) == 0 {
-        dot(e, a, c) <= 0
-    } else {
-        true
-    }
+    turn(e, a, c) != 0 || dot(e, a, c) <= 0
 }

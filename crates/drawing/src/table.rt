@@ -89,10 +89,9 @@ fn decide(xy: &[i32], cells: &mut [u8], i: usize, a: Known, j: usize, b: Known)
     ensures { Decided xy.now i j cells.old cells.new }
 {
     let told = look(xy, i, a, j, b);
-    if told == 0 {
-        return;
+    if told != 0 {
+        put(cells, i, j, told);
     }
-    put(cells, i, j, told);
 }
 
 pub fn put(cells: &mut [u8], i: usize, j: usize, v: u8)

@@ -3,7 +3,7 @@ use mathlib.Core.Path.{◌≡◌, refl, ap, ◌∙◌}
 use mir.Syntax.{w64}
 use mir.Val.{of_z}
 use Rattle.outline.specs.Drawing.{corner, turn_of}
-use Rattle.outline.specs.Tells.{never}
+use Rattle.outline.specs.Tells.{as_well, eq_tells}
 use Rattle.outline.specs.Placed.{dot_on, on_dot}
 use Rattle.drawing.proofs.Machine.{by_le, held, same_bits, dot_same, turn_same}
 use Rattle.drawing.proofs.seeing.lies_on.Goals as goal
@@ -28,4 +28,5 @@ returns-else-turn-eq0 c =
     c.turn.ensures ∙
     turn_same c.corner-a.ensures.is c.corner-b.ensures.is
     c.corner-c.ensures.is in
-    never (λ o. c.if-turn-eq0.false (ap (of_z w64) (line ∙ o.line)))
+    as_well (eq_tells (of_z w64 c.turn.result) 0) (λ e. absurd (c.if-turn-eq0.false e))
+    (λ o. ap (of_z w64) (line ∙ o.line))

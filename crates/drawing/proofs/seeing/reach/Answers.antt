@@ -20,5 +20,5 @@ either-mark u w n k h (inl e) = absurd (n e)
 either-mark u w n k h (inr (inl e)) = omega (arith, e, bit-or u w k, bit_small w k)
 either-mark u w n k h (inr (inr e)) = omega (arith, e, bit-or u w k, bit_small u k)
 
-pub returns : goal.returns
-returns c = either-mark c.args.first c.args.second (λ e. c.if-p-q.false (ap (of_z w64) e))
+pub returns-else-p-q : goal.returns-else-p-q
+returns-else-p-q c = either-mark c.args.first c.args.second (λ e. c.if-p-q.false (ap (of_z w64) e))

@@ -5,17 +5,14 @@ use Rattle.outline.specs.Way.{GrazedBy}
 use Rattle.drawing.specs.Grazing.{touched_here, touched_there}
 use Rattle.drawing.proofs.seeing.touched.Goals as goal
 
-pub lies_on-requires : goal.lies_on-requires
-lies_on-requires c = let h = c.requires in (h.limits.0, h.limits.2, h.limits.3, h.k_bound.0)
-
 pub returns-then-lies_on : goal.returns-then-lies_on
 returns-then-lies_on c =
     let h = c.requires in
     touched_here _ h.limits.1.simple _ _ _ h.limits.2 h.limits.3 h.k_bound.0 h.k_bound.1
     (if_yes c.lies_on.ensures c.if-lies_on.true)
 
-pub returns : goal.returns
-returns c =
+pub returns-else-lies_on : goal.returns-else-lies_on
+returns-else-lies_on c =
     let h = c.requires in
     subst (λ m. GrazedBy c.args.xy.now c.args.i c.args.j m) (sym c.next.ensures.is)
     (touched_there _ h.limits.1.simple _ _ _ h.limits.2 h.limits.3 h.k_bound.0 h.k_bound.1

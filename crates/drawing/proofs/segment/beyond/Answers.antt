@@ -1,13 +1,13 @@
 -- `drawing::segment::beyond` meets its contract.
 use mathlib.Core.Bool.{Bool, ◌&&◌}
-use mathlib.Core.Logic.{inl}
+use mathlib.Core.Path.{refl}
 use lib.IntN.{ℤ}
 use lib.Signed.{lt_z, ◌<ℤ◌}
 use mir.Syntax.{w64}
 use mir.Val.{SFits}
 use mir.Facts.{to_z-of_z}
-use Rattle.outline.specs.Tells.{Tells, if_yes, if_no, surely, never, and_tells, or_tells}
-use Rattle.drawing.proofs.Machine.{back, by_lt}
+use Rattle.outline.specs.Tells.{Tells, and_tells}
+use Rattle.drawing.proofs.Machine.{back, by_lt, or_first, or_second}
 use Rattle.drawing.proofs.segment.beyond.Goals as goal
 
 -- one comparison, as the machine makes it
@@ -23,14 +23,11 @@ both : {x y z w : ℤ} → SFits w64 x → SFits w64 y → SFits w64 z → SFits
 both e f g h = and_tells (and_tells (tells e g) (tells e h)) (and_tells (tells f g) (tells f h))
 
 pub returns-then-c-a : goal.returns-then-c-a
-returns-then-c-a c =
-    let f = c.ranges in
-    let both_below = both f.c f.d f.a f.b in
-    surely (inl (if_yes both_below c.if-c-a.true))
+returns-then-c-a c = let f = c.ranges in or_first (both f.c f.d f.a f.b) refl c.if-c-a.true
 
-pub returns : goal.returns
-returns c =
+pub returns-else-c-a : goal.returns-else-c-a
+returns-else-c-a c =
     let f = c.ranges in
-    let both_below = both f.c f.d f.a f.b in
-    or_tells (never (if_no both_below c.if-c-a.false))
-    (and_tells (and_tells (tells f.a f.c) (tells f.b f.c)) (and_tells (tells f.a f.d) (tells f.b f.d)))
+    or_second (both f.c f.d f.a f.b)
+    (and_tells (and_tells (tells f.a f.c) (tells f.b f.c)) (and_tells (tells f.a f.d) (tells f.b f.d))) refl
+    c.if-c-a.false

@@ -1,24 +1,18 @@
--- `drawing::simple::apart` meets its contract: side i is apart from every side passed.
-use native.Mathlib.Omega.{arith}
-use borrow.Author.Count.{below_more}
-use Rattle.outline.specs.Tells.{if_yes, if_no, surely, never}
+-- `drawing::simple::apart` meets its contract: side i is apart from every side before it.
+use mathlib.Core.Path.{refl}
+use Rattle.std.proofs.lemmas.Iterator.{cases_from_all, YieldsList-from_range}
+use borrow.Author.Tests.{tests}
+use Rattle.std.proofs.Common.{rules, arith}
+use Rattle.outline.specs.Sides.{SidesApart}
+use Rattle.outline.specs.Tells.{if_yes, if_no}
+use Rattle.drawing.proofs.Machine.{all_tell}
 use Rattle.drawing.proofs.simple.apart.Goals as goal
 
-pub loop-j-init : goal.loop-j-init
-loop-j-init c = (omega arith, λ m h. absurd (omega arith))
-
-pub pair_apart-requires : goal.pair_apart-requires
-pair_apart-requires c = (c.requires.0, c.requires.1, omega arith)
-
-pub returns-then-not-pair_apart : goal.returns-then-not-pair_apart
-returns-then-not-pair_apart c =
-    let share = if_no c.pair_apart.ensures c.if-not-pair_apart.true in
-    never (λ f. share (f c.loop-j.j (omega arith)))
-
-pub loop-j-preserved : goal.loop-j-preserved
-loop-j-preserved c =
-    let apart = if_yes c.pair_apart.ensures c.if-not-pair_apart.false in
-    (omega arith, below_more _ _ c.loop-j.invariant.1 apart)
-
 pub returns : goal.returns
-returns c = surely (λ j h. c.loop-j.invariant.1 j (omega arith))
+returns c =
+    let d = c.args.xy.now in
+    let i = c.args.i in
+    all_tell i
+    (cases_from_all _ _ _ (SidesApart d i) (λ j. ¬ SidesApart d i j) c.all.ensures.ran
+    (YieldsList-from_range 0 i i refl (omega arith))
+    (λ x q k. search (rules, tests, if_yes)) (λ x q k. search (rules, tests, if_no)))
