@@ -1,70 +1,77 @@
 // What a call tells, whichever of the two it was. The number of each case stands here again: what the call for C makes
 // of the cases is compared too.
-use checker::Checked;
+use checker::Fault;
+use checker::flat::iravikkon_check;
 use pair::Which;
+use recorded::words::Words;
+use std::fmt;
 
 // 02's number, and with 23 and 24 the place and the drawing, 1 or 2; else two zeros.
-#[derive(Clone, Copy)]
+#[derive(Clone, Copy, PartialEq, Eq)]
 pub struct Told {
-    pub number: u64,
-    pub place: u64,
-    pub drawing: u64,
+    number: u32,
+    place: usize,
+    drawing: u32,
 }
 
-fn number(k: u64) -> Told {
+impl Told {
+    // What must come back, as a text has it.
+    pub fn read(words: &mut Words) -> Option<Told> {
+        Some(Told {
+            number: words.natural()?,
+            place: words.natural()? as usize,
+            drawing: words.natural()?,
+        })
+    }
+}
+
+impl fmt::Display for Told {
+    fn fmt<W: fmt::Write>(&self, f: &mut fmt::Formatter<W>) -> fmt::Result {
+        write!(
+            f,
+            "number {}, place {}, drawing {}",
+            self.number, self.place, self.drawing
+        )
+    }
+}
+
+fn numbered(number: u32) -> Told {
     Told {
-        number: k,
+        number,
         place: 0,
         drawing: 0,
     }
 }
 
-fn number_at(k: u64, place: usize, drawing: Which) -> Told {
-    let d = match drawing {
+fn numbered_at(number: u32, place: usize, drawing: Which) -> Told {
+    let drawing = match drawing {
         Which::First => 1,
         Which::Second => 2,
     };
     Told {
-        number: k,
-        place: place as u64,
-        drawing: d,
+        number,
+        place,
+        drawing,
     }
 }
 
 // The calls themselves, with nothing promised: what comes back is compared here, and its proof stands elsewhere.
 pub fn plain(first: &[i32], second: &[i32], list: &[u8]) -> Told {
-    let checked = checker::check(first, second, list);
-    match checked {
-        Checked::Accepted => number(0),
-        Checked::Unlike => number(1),
-        Checked::FirstOutOfRange => number(3),
-        Checked::FirstNotSimple => number(4),
-        Checked::FirstNotAnticlockwise => number(5),
-        Checked::SecondOutOfRange => number(6),
-        Checked::SecondNotSimple => number(7),
-        Checked::SecondNotAnticlockwise => number(8),
-        Checked::NoList => number(21),
-        Checked::NoCutting => number(22),
-        Checked::Unseen { place, drawing } => number_at(23, place, drawing),
-        Checked::Misses { place, drawing } => number_at(24, place, drawing),
+    match checker::check(first, second, list) {
+        Ok(()) => numbered(0),
+        Err(Fault::Pair(refusal)) => numbered(u32::from(u8::from(refusal))),
+        Err(Fault::NoList) => numbered(21),
+        Err(Fault::NoCutting) => numbered(22),
+        Err(Fault::Unseen { place, drawing }) => numbered_at(23, place, drawing),
+        Err(Fault::Misses { place, drawing }) => numbered_at(24, place, drawing),
     }
 }
 
 pub fn for_c(first: &[i32], second: &[i32], list: &[u8]) -> Told {
-    let flat = checker::flat::iravikkon_check(first, second, list);
+    let flat = iravikkon_check(first, second, list);
     Told {
-        number: flat.number as u64,
-        place: flat.place as u64,
-        drawing: flat.drawing as u64,
+        number: u32::from(flat.number),
+        place: flat.place,
+        drawing: u32::from(flat.drawing),
     }
-}
-
-pub fn same(a: Told, b: Told) -> bool {
-    if a.number != b.number {
-        return false;
-    }
-    if a.place != b.place {
-        return false;
-    }
-    a.drawing == b.drawing
 }

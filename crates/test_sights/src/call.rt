@@ -1,97 +1,50 @@
 // The calls on one list, held to what must come back.
-ghost use Rattle.std.specs.Prelude.{◌≤◌, length};
-
-use drawing::Judged;
+use drawing::Unsound;
 use limits::{ALL_CELLS, ROW};
-use recorded::lent::{agree, fill};
+use pair::{Which, number};
+use std::fmt;
+use trials::held::held;
+use trials::lines::Call;
 
 // The buffer: a row of cells more than there may be.
 pub const BUFFER: usize = ALL_CELLS + ROW;
 
-// The judgement, as 01 numbers it for a first drawing.
-pub const MISSHAPEN: u8 = 1;
-
-pub const OUT_OF_RANGE: u8 = 3;
-
-pub const NOT_SIMPLE: u8 = 4;
-
-pub const NOT_ANTICLOCKWISE: u8 = 5;
-
-pub const SOUND: u8 = 0;
-
 // What both calls say of the list.
-#[derive(Clone, Copy)]
+#[derive(Clone, Copy, PartialEq, Eq)]
 struct Said {
-    judged: u8,
-    sighted: u8,
+    judged: Result<(), Unsound>,
+    sighted: Result<(), Unsound>,
 }
 
-fn number_of(j: Judged) -> u8 {
-    match j {
-        Judged::Misshapen => MISSHAPEN,
-        Judged::OutOfRange => OUT_OF_RANGE,
-        Judged::NotSimple => NOT_SIMPLE,
-        Judged::NotAnticlockwise => NOT_ANTICLOCKWISE,
-        Judged::Sound => SOUND,
+// As 01 numbers it for a first drawing.
+impl fmt::Display for Said {
+    fn fmt<W: fmt::Write>(&self, f: &mut fmt::Formatter<W>) -> fmt::Result {
+        let judged = number(Which::First, self.judged);
+        let sighted = number(Which::First, self.sighted);
+        write!(f, "judged {judged}, by sight {sighted}")
     }
 }
 
 // The calls themselves, with nothing promised: what comes back is compared here, and its proof stands elsewhere.
-fn judged(xy: &[i32]) -> u8 {
-    number_of(drawing::judge(xy))
+fn both_say(xy: &[i32], cells: &mut [u8]) -> Said {
+    Said {
+        judged: drawing::judge(xy),
+        sighted: drawing::sight(xy, cells),
+    }
 }
 
-fn sighted(xy: &[i32], cells: &mut [u8]) -> u8 {
-    number_of(drawing::sight(xy, cells))
-}
-
-pub fn counted(b: bool) -> u64
-    ensures { result ≤ 1 }
-{
-    if b { 1 } else { 0 }
-}
-
-// Whether both calls say `due`, and leave the buffer as `after` has it, with so many of its cells lent; `what` and
-// `line` name them where they do not.
-pub fn holds(
+// Whether both calls say `due`, and leave the buffer as `after` has it, with so many of its cells lent.
+pub fn right(
     rt: &impl Print,
-    what: &str,
-    line: u64,
+    call: Call,
     xy: &[i32],
     lent: usize,
-    due: u8,
-    cells: &mut [u8],
-    after: &[u8],
-) -> bool
-    requires { lent ≤ length cells.old }
-{
-    fill(cells);
-    let said = Said {
-        judged: judged(xy),
-        sighted: sighted(xy, &mut cells[..lent]),
+    due: Result<(), Unsound>,
+    after: &[u8; BUFFER],
+) -> Option<bool> {
+    let due = Said {
+        judged: due,
+        sighted: due,
     };
-    let place = agree(cells, after);
-    if right(said, due, place, cells.len()) {
-        return true;
-    }
-    report(rt, what, line, said, place);
-    false
-}
-
-fn right(said: Said, due: u8, place: usize, end: usize) -> bool {
-    if said.judged != due {
-        return false;
-    }
-    if said.sighted != due {
-        return false;
-    }
-    place == end
-}
-
-fn report(rt: &impl Print, what: &str, line: u64, said: Said, place: usize) {
-    let judged = said.judged;
-    let sighted = said.sighted;
-    let _ = println!(rt;
-        "{what}{line}: judged {judged}, by sight {sighted}; the buffer is right up to place {place}"
-    );
+    held(rt, call, lent, &due, after, |cells| both_say(xy, cells))
 }
