@@ -1,21 +1,14 @@
 -- The pieces of an answer, one after another: the wedges of those that have been passed hold no mark.
-use mathlib.Core.Path.{◌≡◌, refl, sym, ap, ap₂, ◌∙◌, subst}
-use mathlib.Core.Bool.{true, false, true≢false}
-use mathlib.Core.Logic.{inl, inr}
-use mathlib.Core.List.{List, [], ◌∷◌, ◌++◌}
-use Prim.Native.Nat.{ℕ, zero, suc, ◌+◌, ◌-◌, ◌≤◌, ◌<◌}
-use native.Mathlib.Omega.{arith}
-use native.Mathlib.Nat.{add-zero}
-use lib.IntN.{ℤ}
-use lib.ListN.{length, get_or, take, drop, drop_of_length-le, length-append, length-drop}
-use lib.Seq.{drop-drop, drop_at, take_at, get_or-drop}
+use Rattle.std.proofs.Common.{◌≡◌, refl, sym, ap, ap₂, ◌∙◌, subst, inl, inr, List, [], ◌∷◌, ◌++◌, ℕ, zero, suc, ◌+◌, ◌≤◌, ◌<◌, arith, ℤ, length, get_or, take, drop, slice_get}
+use Rattle.std.proofs.Math.ListN.{length-append}
+use Rattle.std.proofs.Math.Seq.{drop_at, take_at}
+use Rattle.std.specs.Prelude.{Option, Some, None}
 use Rattle.outline.specs.Drawing.{Point, corners}
 use Rattle.rules.specs.Lists.{In}
 use Rattle.marks.specs.Wedges.{Wedge, fan, piece_wedges, wedges}
 use Rattle.marks.specs.Lands.{Lands}
-use Rattle.marks.specs.Parts.{Piece, piece_fan, is_place, Spells, Read, Finds}
-use Rattle.marks.specs.declared.Landing.{Landing}
-use Rattle.marks.specs.declared.Landing.TheVariants.{Place, OnNoPiece}
+use Rattle.marks.specs.Parts.{Piece, piece_fan, Spells, Read, Told, taken, Finds}
+use Rattle.marks.specs.declared.Place.{Place}
 
 -- ---- bytes that begin with a piece
 in_at : (S : List ℕ) (j : ℕ) → j < length S → In (get_or S j 0) S
@@ -53,10 +46,6 @@ begins n (S ∷ l) D h s = record {
 fan_is : (c : ℕ) (S : List ℕ) → 0 < length S → fan c (get_or S 0 0) S ≡ piece_wedges c S
 fan_is c [] h = absurd (omega arith)
 fan_is c (f ∷ s) h = refl
-
--- how many bytes it takes
-abbrev taken : List ℕ → ℕ
-taken D = 2 + get_or D 0 0
 
 module _ {n : ℕ} {l : List (List ℕ)} {D : List ℕ} (b : Begins n l D) where
   abbrev whole : List ℕ
@@ -97,112 +86,88 @@ module _ {n : ℕ} {l : List (List ℕ)} {D : List ℕ} (b : Begins n l D) where
       go (suc zero) h k = b.c_below
       go (suc (suc j)) h k = b.below (get_or b.S j 0) (in_at b.S j (omega arith))
 
+-- ---- the bytes of a piece, as they are taken
+pub told_fits : {L : List ℕ} → Told L → 0 < length L → taken L ≤ length L
+told_fits {L} t h = fits (begins t.n t.read.pieces L h t.read.spells)
+
+pub told_rest : {L : List ℕ} → Told L → 0 < length L → Told (drop (taken L) L)
+told_rest {L} t h =
+    let b = begins t.n t.read.pieces L h t.read.spells in
+    record { n = t.n; read = record { pieces = b.more; spells = subst (Spells t.n b.more) (sym (rest_is b)) b.then } }
+
+pub first_is : (L : List ℕ) (k : ℕ) → Some k ≡ slice_get L 0 → (0 < length L) × (k ≡ get_or L 0 0)
+first_is [] k e = cc
+first_is (x ∷ L) k e = (omega arith, cc)
+
 module _ (first second : List ℤ) (m : Point) where
   -- ---- two runs of wedges
-  lands_before : (A B : List Wedge) (r : Landing) → is_place r ≡ true → Lands first second m A r →
-      Lands first second m (A ++ B) r
-  lands_before [] B r z h = absurd (true≢false (sym z ∙ ap is_place h))
-  lands_before (W ∷ A) B r z (inl h) = inl h
-  lands_before (W ∷ A) B r z (inr h) = inr (h.0, lands_before A B r z h.1)
+  lands_before : (A B : List Wedge) (P : Place) → Lands first second m A (Some P) →
+      Lands first second m (A ++ B) (Some P)
+  lands_before [] B P h = cc
+  lands_before (W ∷ A) B P (inl h) = inl h
+  lands_before (W ∷ A) B P (inr h) = inr (h.0, lands_before A B P h.1)
 
-  lands_after : (A B : List Wedge) (r : Landing) → Lands first second m A OnNoPiece → Lands first second m B r →
+  lands_after : (A B : List Wedge) (r : Option Place) → Lands first second m A None → Lands first second m B r →
       Lands first second m (A ++ B) r
   lands_after [] B r h k = k
   lands_after (W ∷ A) B r (inl h) k = absurd h.1
   lands_after (W ∷ A) B r (inr h) k = inr (h.0, lands_after A B r h.1 k)
 
-  -- ---- the pieces before place `at` are passed: however the bytes are read, those from there on decide
+  -- ---- the pieces of L before D are passed: however the bytes are read, those of D decide
   abbrev n : ℕ
   n = corners first
 
-  pub record PassedTo (L : List ℕ) (at : ℕ) : Type 0 where
-    pub read : Read n (drop at L)
+  pub record PassedTo (L D : List ℕ) : Type 0 where
+    pub read : Read n D
     pub rest : (l : List (List ℕ)) → Spells n l L →
-        (k : List (List ℕ)) × Spells n k (drop at L)
-        × ((r : Landing) → Lands first second m (wedges k (drop at L)) r → Lands first second m (wedges l L) r)
+        (k : List (List ℕ)) × Spells n k D
+        × ((r : Option Place) → Lands first second m (wedges k D) r → Lands first second m (wedges l L) r)
 
-  pub passed_no_piece : (L : List ℕ) → Read n L → PassedTo L 0
-  passed_no_piece L h = record { read = h; rest = λ l s. (l, s, λ r k. k) }
+  pub passed_no_piece : {L : List ℕ} → Read n L → PassedTo L L
+  passed_no_piece h = record { read = h; rest = λ l s. (l, s, λ r k. k) }
 
-  module _ (L : List ℕ) (at : ℕ) (h : at < length L) (p : PassedTo L at) where
-    abbrev D : List ℕ
-    D = drop at L
-
-    -- the piece at `at`, as the code takes it
-    abbrev part : ℕ → List ℕ
-    part k = take (at + (2 + k) - at) D
-
-    more : 0 < length D
-    more = omega (arith, length-drop at L)
-
-    head_is : get_or D 0 0 ≡ get_or L at 0
-    head_is = get_or-drop at L 0 0 ∙ ap (λ (k : ℕ). get_or L k 0) (add-zero at)
+  module _ {L D : List ℕ} (more : 0 < length D) (p : PassedTo L D) where
+    abbrev part : List ℕ
+    part = take (taken D) D
 
     here : Begins n p.read.pieces D
     here = begins n p.read.pieces D more p.read.spells
 
-    -- as the machine holds the count
-    module _ {k : ℕ} (e : k ≡ get_or L at 0) where
-      part_is : part k ≡ take (taken D) D
-      part_is =
-          let q : at + (2 + k) - at ≡ taken D = omega (arith, e, head_is) in
-          ap (λ (j : ℕ). take j D) q
+    pub part_piece : Piece n part
+    part_piece = is_piece here
 
-      next_is : drop (taken D) D ≡ drop (at + (2 + k)) L
-      next_is =
-          drop-drop (taken D) at L
-          ∙ ap (λ (j : ℕ). drop (at + (2 + j)) L) (head_is ∙ sym e)
+    pub piece_hit : (P : Place) → Lands first second m (piece_fan part) (Some P) → Finds first second m L (Some P)
+    piece_hit P f = record { finds = go }
+      where
+        go : (l : List (List ℕ)) → Spells n l L → Lands first second m (wedges l L) (Some P)
+        go l s =
+            let q = p.rest l s in
+            let b = begins n q.0 D more q.1 in
+            q.2 (Some P) (subst (λ x. Lands first second m x (Some P)) (sym (wedges_are b))
+            (lands_before (piece_fan part) (wedges b.more (drop (taken D) D)) P f))
 
-      pub part_fits : at + (2 + k) ≤ length L
-      part_fits = omega (arith, e, fits here, head_is, length-drop at L)
+    pub piece_missed : Lands first second m (piece_fan part) None → PassedTo L (drop (taken D) D)
+    piece_missed f = record {
+      read = record { pieces = here.more; spells = subst (Spells n here.more) (sym (rest_is here)) here.then };
+      rest = go;
+    }
+      where
+        go : (l : List (List ℕ)) → Spells n l L →
+            (j : List (List ℕ)) × Spells n j (drop (taken D) D)
+            × ((r : Option Place) → Lands first second m (wedges j (drop (taken D) D)) r → Lands first second m
+            (wedges l L) r)
+        go l s =
+            let q = p.rest l s in
+            let b = begins n q.0 D more q.1 in (
+              b.more,
+              subst (Spells n b.more) (sym (rest_is b)) b.then,
+              λ r g. q.2 r (subst (λ x. Lands first second m x r) (sym (wedges_are b))
+                  (lands_after (piece_fan part) (wedges b.more (drop (taken D) D)) r f g)),
+            )
 
-      pub part_piece : Piece n (part k)
-      part_piece = subst (Piece n) (sym part_is) (is_piece here)
-
-      pub piece_hit : (r : Landing) → is_place r ≡ true → Lands first second m (piece_fan (part k)) r →
-          Finds first second m L r
-      piece_hit r z f = record { finds = go }
-        where
-          go : (l : List (List ℕ)) → Spells n l L → Lands first second m (wedges l L) r
-          go l s =
-              let q = p.rest l s in
-              let b = begins n q.0 D more q.1 in
-              q.2 r (subst (λ x. Lands first second m x r) (sym (wedges_are b))
-              (lands_before (piece_fan (take (taken D) D)) (wedges b.more (drop (taken D) D)) r z
-              (subst (λ (x : List ℕ). Lands first second m (piece_fan x) r) part_is f)))
-
-      pub piece_missed : (r : Landing) → is_place r ≡ false → Lands first second m (piece_fan (part k)) r →
-          PassedTo L (at + (2 + k))
-      piece_missed (Place x y) z f = absurd (true≢false z)
-      piece_missed OnNoPiece z f = record {
-        read = record {
-          pieces = here.more;
-          spells = subst (Spells n here.more) (sym (rest_is here) ∙ next_is) here.then;
-        };
-        rest = go;
-      }
-        where
-          none : Lands first second m (piece_fan (take (taken D) D)) OnNoPiece
-          none = subst (λ (x : List ℕ). Lands first second m (piece_fan x) OnNoPiece) part_is f
-
-          go : (l : List (List ℕ)) → Spells n l L →
-              (j : List (List ℕ)) × Spells n j (drop (at + (2 + k)) L)
-              × ((r : Landing) → Lands first second m (wedges j (drop (at + (2 + k)) L)) r → Lands first second m
-              (wedges l L) r)
-          go l s =
-              let q = p.rest l s in
-              let b = begins n q.0 D more q.1 in (
-                b.more,
-                subst (Spells n b.more) (sym (rest_is b) ∙ next_is) b.then,
-                λ r g. q.2 r (subst (λ x. Lands first second m x r) (sym (wedges_are b))
-                    (lands_after (piece_fan (take (taken D) D)) (wedges b.more (drop (taken D) D)) r none
-                    (subst (λ (x : List ℕ). Lands first second m (wedges b.more x) r) (sym next_is) g))),
-              )
-
-  pub pieces_passed : (L : List ℕ) (at : ℕ) → length L ≤ at → PassedTo L at → Finds first second m L OnNoPiece
-  pieces_passed L at h p = record { finds = λ l s. let q = p.rest l s in q.2 OnNoPiece (none q.0 q.1) }
+  pub pieces_passed : {L D : List ℕ} → D ≡ [] → PassedTo L D → Finds first second m L None
+  pieces_passed {L} {D} e p = record { finds = λ l s. let q = p.rest l s in q.2 None (none q.0 q.1) }
     where
-      none : (k : List (List ℕ)) → Spells (corners first) k (drop at L) →
-          Lands first second m (wedges k (drop at L)) OnNoPiece
+      none : (k : List (List ℕ)) → Spells (corners first) k D → Lands first second m (wedges k D) None
       none [] s = refl
-      none (S ∷ k) s = absurd (omega (arith, ap length s.2, ap length (drop_of_length-le L {i = at} h)))
+      none (S ∷ k) s = absurd (omega (arith, ap length s.2, ap length e))

@@ -1,4 +1,6 @@
--- quotient, remainder and cast of the machine, as whole steps and a rest
+-- points as `drawing` takes them
+mod Points
+-- quotient and remainder, rounded down, as whole steps and a rest
 mod Rounding
 -- weighted sums stay within their bounds
 mod Sums

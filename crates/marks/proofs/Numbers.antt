@@ -3,7 +3,10 @@
 use mathlib.Core.Logic.{◌⊎◌, inl, inr}
 use mathlib.Core.List.{List}
 use mathlib.Core.Path.{◌≡◌}
-use Prim.Native.Nat.{ℕ, ◌≤◌}
+use Prim.Native.Nat.{ℕ, ◌≤◌, ◌<◌, min}
+use Rattle.std.proofs.Common.{length, take}
+use Rattle.std.proofs.lemmas.List.{length-take-le}
+use Rattle.std.proofs.Math.Decide.{dec_lt}
 use native.Mathlib.Omega.{arith}
 use lib.IntN.{ℤ}
 use Rattle.limits.specs.Limits.{room, Roomy}
@@ -16,6 +19,16 @@ use Rattle.marks.specs.Parts.{OrTen, Outside}
 -- the spare room has what is lent, or as much as any cutting needs where more is lent
 abbrev pub Spare : ℕ → ℕ → Type 0
 Spare size lent = (size ≡ lent) ⊎ ((size ≡ room) × (room ≤ lent))
+
+pub spare_of : (l : List ℕ) (k lent : ℕ) → length l ≡ room → k ≡ min lent room → Spare (length (take k l)) lent
+spare_of l k lent f e = go (dec_lt lent room)
+  where
+    size : length (take k l) ≡ k
+    size = length-take-le k l (omega arith)
+
+    go : Dec (lent < room) → Spare (length (take k l)) lent
+    go (yes h) = inl (omega (arith, size))
+    go (no h) = inr (omega (arith, size), omega arith)
 
 module _ {first second : List ℤ} (size lent : ℕ) (e : Spare size lent) where
   roomy : Alike first second → Roomy (corners first) size → Roomy (corners first) lent

@@ -1,4 +1,5 @@
 -- The three ways out of `carry`: the mark is out of range, the pair is refused, the mark is carried.
+use Rattle.std.specs.Prelude.{Option, None, Ok, Err}
 use mathlib.Core.Path.{◌≡◌, refl, sym, ap, ◌∙◌, subst}
 use mathlib.Core.Logic.{inl, inr}
 use mathlib.Core.List.{List, [], ◌∷◌}
@@ -8,11 +9,8 @@ use native.Mathlib.Decide.{ℕ_discrete}
 use lib.IntN.{ℤ}
 use lib.ListN.{length, take, drop, length-append}
 use lib.Seq.{take_at}
-use Rattle.limits.specs.Limits.{furthest}
-use Rattle.whole.specs.Bounds.{near_of}
 use Rattle.outline.specs.Drawing.{Point, corners}
-use Rattle.drawing.specs.Parts.{Close}
-use Rattle.pair.specs.Passing.{SoundPair, equally_many}
+use Rattle.pair.specs.Passing.{SoundPair}
 use Rattle.pair.proofs.Passing.{sound_pair}
 use Rattle.rules.specs.Lists.{In}
 use Rattle.rules.specs.Cutting.{pieces}
@@ -21,17 +19,16 @@ use Rattle.rules.proofs.Regions.{pieces_regions}
 use Rattle.rules.specs.Refusals.{FirstFailed, all_hold, longer, put_in}
 use Rattle.rules.specs.Result.{Result, Given}
 use Rattle.desk.specs.Answer as desk
-use Rattle.desk.specs.declared.Outcome.{Outcome}
+use Rattle.desk.specs.declared.Refusal as pair
 use Rattle.marks.specs.Wedges.{wedges}
 use Rattle.marks.specs.Lands.{Lands}
-use Rattle.marks.specs.Carry.{mark, MarkInRange, of_mark, asked_with_mark, wedges_given, CarriesMark, result_of}
-use Rattle.marks.specs.Parts.{Refusal, Outside, Pair, Spells, Read, Finds}
+use Rattle.marks.specs.Carry.{MarkInRange, of_mark, asked_with_mark, wedges_given, number, CarriesMark, result_of}
+use Rattle.marks.specs.Unique.{some}
+use Rattle.marks.specs.Parts.{Outside, Spells, Read, Finds}
 use Rattle.marks.specs.declared.Carried.{Carried}
-use Rattle.marks.specs.declared.Landing.{Landing}
-
-pub close_mark : {x y : ℤ} → MarkInRange (mark x y) → Close (mark x y)
-close_mark {x} {y} h =
-    record { close_x = near_of furthest x h.x_low h.x_high; close_y = near_of furthest y h.y_low h.y_high }
+use Rattle.marks.specs.declared.Place.{Place}
+use Rattle.marks.specs.declared.Refusal.{Refusal}
+use Rattle.marks.specs.declared.Refusal.TheVariants.{Pair}
 
 -- ---- a pair that is cut
 pub sound_of : {first second : List ℤ} (room : ℕ) → FirstFailed (desk.asked first second room) 0 →
@@ -41,13 +38,6 @@ sound_of {first} {second} room f =
     let d = h.1.1 in
     let s = d.1.1.1 in
     sound_pair first second (h.0, (d.0, (d.1.0, (d.1.1.0, (s.0, (s.1.0, (s.1.1.0, tt)))))))
-
-pub pair_of : {first second : List ℤ} → SoundPair first second → Pair first second
-pair_of s = record {
-  first_in = s.first_sound.in_range;
-  second_in = s.second_sound.in_range;
-  alike = equally_many s.alike;
-}
 
 -- the bytes of its answer
 spells : (first second : List ℤ) (l : List (List ℕ)) (L : List ℕ) →
@@ -98,56 +88,57 @@ module _ {first second : List ℤ} {before : List ℕ} {r : Result}
   pub told_read : Read (corners first) (take r.bytes r.after)
   told_read = record { pieces = told; spells = told_spells }
 
-  found_lands : (m : Point) (l : Landing) → Finds first second m (take r.bytes r.after) l →
+  found_lands : (m : Point) (l : Option Place) → Finds first second m (take r.bytes r.after) l →
       Lands first second m (wedges_given g) l
   found_lands m l f = subst (λ L. Lands first second m (wedges told L) l) laid_is (f.finds told told_spells)
 
 -- ---- the three ways
 module _ {first second : List ℤ} {m : Point} {before : List ℕ} where
   -- nothing is carried, and every byte is kept
-  refuses : (c : Carried) (after : List ℕ) (k : ℕ) → 0 < k →
-      FirstFailed (asked_with_mark first second m (length before)) k →
-      after ≡ before → Refusal k c → CarriesMark first second m before (result_of c after) c.landing
-  refuses c after k h f e r = record {
+  refuses : (r : Refusal) (after : List ℕ) →
+      FirstFailed (asked_with_mark first second m (length before)) (number r) →
+      after ≡ before → CarriesMark first second m before (result_of (Err r) after) None
+  refuses r after f e = record {
     comes_back = record {
-      numbered = subst (FirstFailed (asked_with_mark first second m (length before))) (sym r.0) f;
-      refused = λ _. record { no_pieces = r.1; no_bytes = r.2; kept = e };
-      given = λ z. absurd (omega (arith, z, h, r.0));
+      numbered = f;
+      refused = λ _. record { no_pieces = refl; no_bytes = refl; kept = e };
+      given = λ z. absurd (omega (arith, z, some r));
     };
-    refused = λ _. r.3;
-    lands = λ z. absurd (omega (arith, z, h, r.0));
+    refused = λ _. refl;
+    lands = λ z. absurd (omega (arith, z, some r));
   }
 
-  pub out_of_range : (c : Carried) (k : ℕ) → ¬ MarkInRange m → Outside first second (length before) k → Refusal k c →
-      CarriesMark first second m before (result_of c before) c.landing
-  out_of_range c k n o r = go (ℕ_discrete o.k 0)
+  pub out_of_range : (r : Refusal) → ¬ MarkInRange m → Outside first second (length before) (number r) →
+      CarriesMark first second m before (result_of (Err r) before) None
+  out_of_range r n o = go (ℕ_discrete o.k 0)
     where
-      go : Dec (o.k ≡ 0) → CarriesMark first second m before (result_of c before) c.landing
+      go : Dec (o.k ≡ 0) → CarriesMark first second m before (result_of (Err r) before) None
       go (yes z) =
           let e = o.or_ten.ten z in
           let lines = desk.asked first second (length before) in
-          refuses c before k (omega (arith, e))
-          (put_in lines (of_mark m) k
-          (all_hold lines (omega arith) (subst (FirstFailed lines) z o.of_pair)) (inl (n, e))) refl r
+          refuses r before
+          (put_in lines (of_mark m) (number r)
+          (all_hold lines (omega arith) (subst (FirstFailed lines) z o.of_pair)) (inl (n, e))) refl
       go (no f) =
           let e = o.or_ten.same f in
           let lines = desk.asked first second (length before) in
-          refuses c before k (omega (arith, e))
-          (longer lines (of_mark m) k (omega (arith, e)) (subst (FirstFailed lines) (sym e) o.of_pair)) refl r
+          refuses r before
+          (longer lines (of_mark m) (number r) (some r) (subst (FirstFailed lines) (sym e) o.of_pair)) refl
 
-  pub pair_refused : (c : Carried) (o : Outcome) (after : List ℕ) →
-      desk.Answers first second before (desk.result_of o after) →
-      ¬ (o.number ≡ 0) → Refusal o.number c → CarriesMark first second m before (result_of c after) c.landing
-  pair_refused c o after a f r =
-      let h : 0 < o.number = omega arith in
-      refuses c after o.number h
-      (longer (desk.asked first second (length before)) (of_mark m) o.number h a.numbered) (a.refused h).kept r
+  pub pair_refused : (r : pair.Refusal) (after : List ℕ) →
+      desk.Answers first second before (desk.result_of (Err r) after) →
+      CarriesMark first second m before (result_of (Err (Pair r)) after) None
+  pair_refused r after a =
+      let h : 0 < desk.number r = some (Pair r) in
+      refuses (Pair r) after
+      (longer (desk.asked first second (length before)) (of_mark m) (desk.number r) h a.numbered)
+      (a.refused h).kept
 
-  pub carried : (pieces bytes : ℕ) (l : Landing) (after : List ℕ) → MarkInRange m →
-      desk.Answers first second before (record { number = 0; count = pieces; bytes = bytes; after = after }) →
-      Finds first second m (take bytes after) l →
-      CarriesMark first second m before (record { number = 0; count = pieces; bytes = bytes; after = after }) l
-  carried pieces bytes l after h a f =
+  pub carried : (c : Carried) (after : List ℕ) → MarkInRange m →
+      desk.Answers first second before (record { number = 0; count = c.pieces; bytes = c.bytes; after = after }) →
+      Finds first second m (take c.bytes after) c.landing →
+      CarriesMark first second m before (result_of (Ok c) after) c.landing
+  carried c after h a f =
       let lines = desk.asked first second (length before) in
       record {
         comes_back = record {
@@ -156,5 +147,5 @@ module _ {first second : List ℤ} {m : Point} {before : List ℕ} where
           given = a.given;
         };
         refused = λ z. absurd (omega (arith, z));
-        lands = λ e. found_lands (sound_of (length before) a.numbered) (a.given e) m l f;
+        lands = λ e. found_lands (sound_of (length before) a.numbered) (a.given e) m c.landing f;
       }

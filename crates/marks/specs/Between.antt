@@ -1,7 +1,7 @@
 -- "A mark on the line between two wedges has the same exact place from either; prove it" (02, K1). The wedges have two
 -- corners in common, and the mark is on the line of these: a spoke of one piece, or a cut between two pieces,
 -- whichever corners are the centres.
-use Rattle.std.specs.Prelude.{◌≡◌, refl, ◌⊎◌, List, [], ◌∷◌, ℕ, ℤ, pos, neg_ℤ, ◌+ℤ◌, ◌*ℤ◌}
+use Rattle.std.specs.Prelude.{Option, Some, None, ◌≡◌, refl, ◌⊎◌, List, [], ◌∷◌, ℕ, ℤ, pos, neg_ℤ, ◌+ℤ◌, ◌*ℤ◌}
 use Rattle.std.proofs.Common.{sym, ◌∙◌, ap, ap₂, subst, inl, inr}
 use Rattle.whole.specs.Ring.{E, v, ◌:+◌, ◌:-◌, ◌:*◌, neg, ring, ring1}
 use Rattle.outline.specs.Drawing.{Point, corner, turn_of}
@@ -10,8 +10,7 @@ use Rattle.marks.specs.Wedges.{Wedge}
 use Rattle.marks.specs.Lands.{across, upward, wedge_area, weighed, Holds, LandsBy}
 use Rattle.marks.specs.Areas.{one_sign}
 use Rattle.marks.specs.OneWay.{SameFraction, told_same}
-use Rattle.marks.specs.declared.Landing.{Landing}
-use Rattle.marks.specs.declared.Landing.TheVariants.{Place, OnNoPiece}
+use Rattle.marks.specs.declared.Place.{Place}
 
 -- x is a corner of W
 abbrev pub Of : ℕ → Wedge → Type 0
@@ -151,13 +150,13 @@ module _ (first : List ℤ) (m : Point) (at : ℕ → ℤ) where
 pub same_landing : (first second : List ℤ) (m : Point) (W W' : Wedge) (x y : ℕ) → ¬ (x ≡ y) → Of x W → Of y W →
     Of x W' → Of y W' →
     Holds first m W → Holds first m W' → turn_of m (corner first x) (corner first y) ≡ pos 0 →
-    (r r' : Landing) → LandsBy first second m W r → LandsBy first second m W' r' → r ≡ r'
-same_landing first second m W W' x y n p q p' q' h h' e (Place a b) (Place a' b') f g =
+    (r r' : Option Place) → LandsBy first second m W r → LandsBy first second m W' r' → r ≡ r'
+same_landing first second m W W' x y n p q p' q' h h' e (Some a) (Some b) f g =
     let s : (at : ℕ → ℤ) →
     SameFraction (weighed first m at W) (wedge_area first W) (weighed first m at W') (wedge_area first W') =
     λ at. same_place first m at W W' x y n p q p' q' h h' e in
-    let ax = told_same _ _ _ _ a a' (s (across second)) f.0 g.0 in
-    let up = told_same _ _ _ _ b b' (s (upward second)) f.1 g.1 in
-    λ t. Place (ax t) (up t)
-same_landing first second m W W' x y n p q p' q' h h' e OnNoPiece r' f g = absurd f
-same_landing first second m W W' x y n p q p' q' h h' e (Place a b) OnNoPiece f g = absurd g
+    let ax = told_same _ _ _ _ a.x b.x (s (across second)) f.0 g.0 in
+    let up = told_same _ _ _ _ a.y b.y (s (upward second)) f.1 g.1 in
+    λ t. Some (record { x = ax t; y = up t })
+same_landing first second m W W' x y n p q p' q' h h' e None r' f g = absurd f
+same_landing first second m W W' x y n p q p' q' h h' e (Some a) None f g = absurd g

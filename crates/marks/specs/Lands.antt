@@ -1,13 +1,12 @@
 -- Where a mark lands: document 02, K1. To be believed; the theorem is K1's "exactly when no wedge holds it".
-use Rattle.std.specs.Prelude.{◌≡◌, refl, ◌⊎◌, ◌↔◌, List, [], ◌∷◌, ℕ, ◌<◌, ℤ, pos, nat_abs, ◌+ℤ◌, ◌*ℤ◌}
+use Rattle.std.specs.Prelude.{Option, Some, None, ◌≡◌, refl, ◌⊎◌, ◌↔◌, List, [], ◌∷◌, ℕ, ◌<◌, ℤ, pos, nat_abs, ◌+ℤ◌, ◌*ℤ◌}
 use Rattle.std.proofs.Common.{sym, subst, inl, inr}
 use Rattle.outline.specs.Drawing.{Point, corner, turn_of}
 use Rattle.outline.specs.InOrOn.{spot, InOrOn}
 use Rattle.rules.specs.Lists.{In}
 use Rattle.marks.specs.Wedges.{Wedge}
 use Rattle.marks.specs.Steps.{InSteps}
-use Rattle.marks.specs.declared.Landing.{Landing}
-use Rattle.marks.specs.declared.Landing.TheVariants.{Place, OnNoPiece}
+use Rattle.marks.specs.declared.Place.{Place}
 
 -- ---- three corners: as a drawing, and twice the area that they cover, whichever way they turn
 abbrev pub triangle : Point → Point → Point → List ℤ
@@ -45,29 +44,29 @@ abbrev pub upward : List ℤ → ℕ → ℤ
 upward second i = (corner second i).y
 
 module _ (first second : List ℤ) (m : Point) where
-  abbrev pub LandsBy : Wedge → Landing → Type 0
-  LandsBy W (Place x y) =
-      InSteps (weighed first m (across second) W) (wedge_area first W) x
-      × InSteps (weighed first m (upward second) W) (wedge_area first W) y
-  LandsBy W OnNoPiece = ⊥
+  abbrev pub LandsBy : Wedge → Option Place → Type 0
+  LandsBy W (Some p) =
+      InSteps (weighed first m (across second) W) (wedge_area first W) p.x
+      × InSteps (weighed first m (upward second) W) (wedge_area first W) p.y
+  LandsBy W None = ⊥
 
   -- "the first such wedge in the answer's order"; "on no piece" where there is none
-  abbrev pub Lands : List Wedge → Landing → Type 0
-  Lands [] r = r ≡ OnNoPiece
+  abbrev pub Lands : List Wedge → Option Place → Type 0
+  Lands [] r = r ≡ None
   Lands (W ∷ l) r = (Holds first m W × LandsBy W r) ⊎ ((¬ Holds first m W) × Lands l r)
 
   -- ---- "the latter exactly when no wedge holds it"
-  none_holds : (l : List Wedge) (r : Landing) → Lands l r → r ≡ OnNoPiece → (W : Wedge) → In W l → ¬ Holds first m W
+  none_holds : (l : List Wedge) (r : Option Place) → Lands l r → r ≡ None → (W : Wedge) → In W l → ¬ Holds first m W
   none_holds [] r h e W i = absurd i
   none_holds (U ∷ l) r (inl h) e W i = absurd (subst (LandsBy U) e h.1)
   none_holds (U ∷ l) r (inr h) e W (inl q) = subst (λ X. ¬ Holds first m X) (sym q) h.0
   none_holds (U ∷ l) r (inr h) e W (inr i) = none_holds l r h.1 e W i
 
-  on_none : (l : List Wedge) (r : Landing) → Lands l r → ((W : Wedge) → In W l → ¬ Holds first m W) → r ≡ OnNoPiece
+  on_none : (l : List Wedge) (r : Option Place) → Lands l r → ((W : Wedge) → In W l → ¬ Holds first m W) → r ≡ None
   on_none [] r h f = h
   on_none (U ∷ l) r (inl h) f = absurd (f U (inl refl) h.0)
   on_none (U ∷ l) r (inr h) f = on_none l r h.1 (λ W i. f W (inr i))
 
-  pub on_no_piece : (l : List Wedge) (r : Landing) → Lands l r →
-      (r ≡ OnNoPiece) ↔ ((W : Wedge) → In W l → ¬ Holds first m W)
+  pub on_no_piece : (l : List Wedge) (r : Option Place) → Lands l r →
+      (r ≡ None) ↔ ((W : Wedge) → In W l → ¬ Holds first m W)
   on_no_piece l r h = (none_holds l r h, on_none l r h)

@@ -33,5 +33,6 @@ pub mod Areas
 -- the quotient of two whole numbers as a float, and that a fraction is told in one way
 pub mod Division
 pub mod OneWay
--- ---- the private functions' promises
+-- ---- the private functions' promises, and the sizes in them
+pub mod Sizes
 pub mod Parts

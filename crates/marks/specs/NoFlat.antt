@@ -1,6 +1,6 @@
 -- Answers without flat wedges; and a mark on a line that two wedges with an area have in common: both hold it, and it
 -- has the same place from either.
-use Rattle.std.specs.Prelude.{◌≡◌, refl, List, ℕ, ◌<◌, ℤ, pos}
+use Rattle.std.specs.Prelude.{Option, ◌≡◌, refl, List, ℕ, ◌<◌, ℤ, pos}
 use Rattle.std.proofs.Common.{sym, ◌∙◌, subst, inl, inr}
 use Rattle.whole.specs.Ring.{◌:-◌, ◌:*◌, ring2}
 use Rattle.whole.specs.Order.{zero_cancel}
@@ -13,7 +13,7 @@ use Rattle.marks.specs.Wedges.{Wedge}
 use Rattle.marks.specs.Lands.{wedge_area, Holds, LandsBy}
 use Rattle.marks.specs.Lies.{Lies, lies_in}
 use Rattle.marks.specs.Between.{Of, same_landing}
-use Rattle.marks.specs.declared.Landing.{Landing}
+use Rattle.marks.specs.declared.Place.{Place}
 
 -- ---- 02, K3: "A wedge may now have no area in the first drawing, so K1's statement on marks between two wedges is
 -- kept for answers in which no wedge is so."
@@ -24,7 +24,7 @@ NoFlatWedge first l = (W : Wedge) → In W l → 0 < wedge_area first W
 pub record SamePlace (first second : List ℤ) (m : Point) (W W' : Wedge) : Type 0 where
   pub holds : Holds first m W
   pub holds' : Holds first m W'
-  pub same : (r r' : Landing) → LandsBy first second m W r → LandsBy first second m W' r' → r ≡ r'
+  pub same : (r r' : Option Place) → LandsBy first second m W r → LandsBy first second m W' r' → r ≡ r'
 
 -- ---- a mark on the line ab does not turn from it
 on_straight : (m a b : Point) → OnSegment (spot m) a b → turn_of m a b ≡ pos 0

@@ -1,5 +1,5 @@
 -- A mark on a corner lands on that corner, by any wedge that has it.
-use Rattle.std.specs.Prelude.{◌≡◌, refl, List, [], ◌∷◌, ℕ, ℤ, pos, ◌+ℤ◌, ◌*ℤ◌}
+use Rattle.std.specs.Prelude.{Option, Some, None, ◌≡◌, refl, List, [], ◌∷◌, ℕ, ℤ, pos, ◌+ℤ◌, ◌*ℤ◌}
 use Rattle.std.proofs.Common.{sym, ◌∙◌, ap, subst, inl, inr, lit<}
 use Rattle.std.specs.Float.{binary64}
 use Rattle.std.specs.Float.Ieee.{of_bits, of_int, div}
@@ -13,8 +13,7 @@ use Rattle.marks.specs.Division.{rest_of}
 use Rattle.marks.specs.OneWay.{told_same}
 use Rattle.marks.specs.Between.{Of}
 use Rattle.marks.specs.declared.Axis.{Axis}
-use Rattle.marks.specs.declared.Landing.{Landing}
-use Rattle.marks.specs.declared.Landing.TheVariants.{Place, OnNoPiece}
+use Rattle.marks.specs.declared.Place.{Place}
 
 -- ---- the corner weighs the wedge's whole area, and the two others nothing
 only : (u s t d : ℕ) (i j k : ℤ) → u ≡ d → s ≡ 0 → t ≡ 0 → pos u *ℤ i +ℤ pos s *ℤ j +ℤ pos t *ℤ k ≡ pos d *ℤ i
@@ -85,11 +84,11 @@ lands_at z n d t e h =
     told_same n z d 1 t (whole z)
     (ap (λ y. y *ℤ pos 1) e ∙ ring (pos d ∷ z ∷ []) (v 0 :* v 1 :* con (pos 1)) (v 1 :* v 0) refl) h (told_whole z)
 
-pub on_corner : (first second : List ℤ) (W : Wedge) (x : ℕ) → Of x W → (r : Landing) →
+pub on_corner : (first second : List ℤ) (W : Wedge) (x : ℕ) → Of x W → (r : Option Place) →
     LandsBy first second (corner first x) W r →
-    r ≡ Place (whole (across second x)) (whole (upward second x))
-on_corner first second W x o (Place s t) h =
-    let ax = lands_at (across second x) _ _ s (whole_corner first (across second) W x o) h.0 in
-    let up = lands_at (upward second x) _ _ t (whole_corner first (upward second) W x o) h.1 in
-    λ l. Place (ax l) (up l)
-on_corner first second W x o OnNoPiece h = absurd h
+    r ≡ Some (record { x = whole (across second x); y = whole (upward second x) })
+on_corner first second W x o (Some p) h =
+    let ax = lands_at (across second x) _ _ p.x (whole_corner first (across second) W x o) h.0 in
+    let up = lands_at (upward second x) _ _ p.y (whole_corner first (upward second) W x o) h.1 in
+    λ l. Some (record { x = ax l; y = up l })
+on_corner first second W x o None h = absurd h

@@ -1,9 +1,9 @@
 // The call as C takes it: what comes back is a flat struct, by value.
-ghost use Rattle.std.specs.Prelude.{◌≡◌};
+ghost use Rattle.std.specs.Prelude.{◌≡◌, None};
 ghost use Rattle.marks.specs.Carry.{mark};
-ghost use Rattle.marks.specs.Flat.{flat, CarriesFlat};
+ghost use Rattle.marks.specs.Flat.{flat, flat_of, CarriesFlat};
 
-use crate::{Carried, Landing, carry};
+use crate::{Carried, Mark, Place, Refusal, carry};
 
 // `lands` is 1 with a place and 0 without; without one the steps and rests are 0.
 #[repr(C)]
@@ -19,31 +19,47 @@ pub struct Flat {
     pub y_rest: f64,
 }
 
-fn flatten(carried: Carried) -> Flat
-    ensures { result ≡ flat carried }
+impl From<Result<Carried, Refusal>> for Flat {
+    ghost from_gives = { λ carried f. f ≡ flat carried };
+
+    fn from(carried: Result<Carried, Refusal>) -> Flat {
+        match carried {
+            Ok(
+                Carried {
+                    pieces,
+                    bytes,
+                    landing,
+                },
+            ) => match landing {
+                Some(Place { x, y }) => Flat {
+                    number: 0,
+                    lands: 1,
+                    pieces,
+                    bytes,
+                    x_step: x.step,
+                    x_rest: x.rest,
+                    y_step: y.step,
+                    y_rest: y.rest,
+                },
+                None => no_place(0, pieces, bytes),
+            },
+            Err(refusal) => no_place(u8::from(refusal), 0, 0),
+        }
+    }
+}
+
+fn no_place(number: u8, pieces: usize, bytes: usize) -> Flat
+    ensures { result ≡ flat_of number pieces bytes None }
 {
-    let landing = carried.landing;
-    match landing {
-        Landing::Place(x, y) => Flat {
-            number: carried.number,
-            lands: 1,
-            pieces: carried.pieces,
-            bytes: carried.bytes,
-            x_step: x.step,
-            x_rest: x.rest,
-            y_step: y.step,
-            y_rest: y.rest,
-        },
-        Landing::OnNoPiece => Flat {
-            number: carried.number,
-            lands: 0,
-            pieces: carried.pieces,
-            bytes: carried.bytes,
-            x_step: 0,
-            x_rest: 0.0,
-            y_step: 0,
-            y_rest: 0.0,
-        },
+    Flat {
+        number,
+        lands: 0,
+        pieces,
+        bytes,
+        x_step: 0,
+        x_rest: 0.0,
+        y_step: 0,
+        y_rest: 0.0,
     }
 }
 
@@ -51,5 +67,5 @@ fn flatten(carried: Carried) -> Flat
 pub fn iravikkon_carry(first: &[i32], second: &[i32], x: i32, y: i32, room: &mut [u8]) -> Flat
     ensures { CarriesFlat first.now second.now (mark x y) room.old room.new result }
 {
-    flatten(carry(first, second, x, y, room))
+    Flat::from(carry(first, second, Mark { x, y }, room))
 }

@@ -2,102 +2,95 @@
 // put it, by the wedges of the pair's cutting.
 #![tactic(auto)]
 
-ghost use Rattle.std.specs.Prelude.{◌≡◌, length};
-ghost use Rattle.outline.specs.Drawing.{corners};
-ghost use Rattle.outline.specs.Tells.{Tells};
-ghost use Rattle.marks.specs.Carry.{mark, MarkInRange, CarriesMark, result_of};
-ghost use Rattle.marks.specs.Parts.{Refusal, Pair, Read, Finds};
+ghost use Rattle.std.specs.Prelude.{◌≡◌};
+ghost use Rattle.marks.specs.Carry.{point_of, number, CarriesMark, result_of, landing_of};
+ghost use Rattle.marks.specs.declared.Refusal.TheVariants as is;
 
 pub mod flat;
 mod outside;
-mod place;
+mod sizes;
 mod steps;
 mod walk;
 mod wedge;
+mod weights;
 
-use limits::FURTHEST;
-use wedge::Coordinates;
+use sizes::Coordinates;
+use walk::Poses;
+
+// A point of the first drawing, anywhere.
+#[derive(Clone, Copy, PartialEq, Eq, Debug)]
+pub struct Mark {
+    pub x: i32,
+    pub y: i32,
+}
 
 // One axis of a place: whole steps, rounded down also below zero, and the rest of a step.
-#[derive(Clone, Copy)]
+#[derive(Clone, Copy, PartialEq, Debug)]
 pub struct Axis {
     pub step: i64,
     pub rest: f64,
 }
 
-// Where a mark lands: the place, across and up; or on no piece.
-#[derive(Clone, Copy)]
-pub enum Landing {
-    Place(Axis, Axis),
-    OnNoPiece,
+// Where a mark lands: across and up.
+#[derive(Clone, Copy, PartialEq, Debug)]
+pub struct Place {
+    pub x: Axis,
+    pub y: Axis,
 }
 
-// 01's number, or 10; the counts of the pair's answer; where the mark lands. A refusal has no pieces, no bytes and no
-// place.
-#[derive(Clone, Copy)]
+// What the pair's answer was, and where the mark lands: none, on no piece.
+#[derive(Clone, Copy, PartialEq, Debug)]
 pub struct Carried {
-    pub number: u8,
     pub pieces: usize,
     pub bytes: usize,
-    pub landing: Landing,
+    pub landing: Option<Place>,
 }
 
-fn in_range(x: i32, y: i32) -> bool
-    ensures { Tells result (MarkInRange (mark x y)) }
-{
-    if x < -FURTHEST {
-        return false;
-    }
-    if x > FURTHEST {
-        return false;
-    }
-    if y < -FURTHEST {
-        return false;
-    }
-    y <= FURTHEST
+// The first line that applies: those of the pair, and then the mark's own, number 10.
+#[derive(Clone, Copy, PartialEq, Eq, Debug)]
+pub enum Refusal {
+    Pair(desk::Refusal),
+    OutOfRange,
 }
 
-fn refused(number: u8) -> Carried
-    ensures { Refusal number result }
-{
-    Carried {
-        number: number,
-        pieces: 0,
-        bytes: 0,
-        landing: Landing::OnNoPiece,
+impl From<desk::Refusal> for Refusal {
+    ghost from_gives = { λ refusal r. r ≡ is.Pair refusal };
+
+    fn from(refusal: desk::Refusal) -> Refusal {
+        Refusal::Pair(refusal)
     }
 }
 
-// Where the mark lands by the bytes of a cutting.
-fn landed(first: &[i32], second: &[i32], x: i32, y: i32, told: &[u8]) -> Landing
-    requires { Pair first.now second.now × MarkInRange (mark x y) × Read (corners first.now) told.now }
-    ensures { Finds first.now second.now (mark x y) told.now result }
+// The number: 01's, or 10.
+impl From<Refusal> for u8 {
+    ghost from_gives = { λ refusal k. k ≡ number refusal };
+
+    fn from(refusal: Refusal) -> u8 {
+        match refusal {
+            Refusal::Pair(refusal) => u8::from(refusal),
+            Refusal::OutOfRange => 10,
+        }
+    }
+}
+
+// The mark of the first drawing. The room is lent and used as by `desk::answer`: where the pair gets a cutting it
+// begins with the cutting's bytes, whether the mark lands or not, and with a refusal it keeps every byte.
+pub fn carry(first: &[i32], second: &[i32], mark: Mark, room: &mut [u8]) -> Result<Carried, Refusal>
+    ensures { CarriesMark first.now second.now (point_of mark) room.old (result_of result room.new)
+        (landing_of result) }
 {
-    let m = Coordinates {
-        x: x as i64,
-        y: y as i64,
+    let Some(mark) = Coordinates::of(mark) else {
+        return Err(outside::refusal(first, second, room.len()));
     };
-    walk::find(first, second, m, told)
-}
-
-// The mark (x, y) of the first drawing. The room is lent and used as by `desk::answer`: with number 0 it begins with
-// the bytes of the cutting, whether the mark lands or not, and else it keeps every byte.
-pub fn carry(first: &[i32], second: &[i32], x: i32, y: i32, room: &mut [u8]) -> Carried
-    ensures { CarriesMark first.now second.now (mark x y) room.old (result_of result room.new) result.landing }
-{
-    if !in_range(x, y) {
-        return refused(outside::number(first, second, room.len()));
-    }
-    let cut = desk::answer(first, second, room);
-    if cut.number != 0 {
-        return refused(cut.number);
-    }
-    let bytes = cut.bytes;
-    let landing = landed(first, second, x, y, &room[..bytes]);
-    Carried {
-        number: 0,
-        pieces: cut.pieces,
-        bytes: bytes,
-        landing: landing,
-    }
+    let told = desk::answer(first, second, room)?;
+    let poses = Poses {
+        first,
+        second,
+        mark,
+    };
+    Ok(Carried {
+        pieces: told.pieces,
+        bytes: told.bytes,
+        landing: poses.find(&room[..told.bytes]),
+    })
 }

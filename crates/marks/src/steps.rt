@@ -11,17 +11,8 @@ pub fn steps(n: i64, d: i64) -> Axis
     requires { Share n d }
     ensures { InSteps n (nat_abs d) result }
 {
-    let q = n / d;
-    let k = n % d;
-    if k < 0 {
-        let up = k + d;
-        return Axis {
-            step: q - 1,
-            rest: (up as f64) / (d as f64),
-        };
-    }
     Axis {
-        step: q,
-        rest: (k as f64) / (d as f64),
+        step: n.div_euclid(d),
+        rest: n.rem_euclid(d) as f64 / d as f64,
     }
 }

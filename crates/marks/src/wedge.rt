@@ -1,71 +1,84 @@
-// One wedge: whether it holds the mark, and where the mark lands by it.
-ghost use Rattle.std.specs.Prelude.{◌≡◌, ◌<◌};
-ghost use Rattle.outline.specs.Drawing.{corners, InRange};
-ghost use Rattle.drawing.specs.Parts.{Close};
-ghost use Rattle.marks.specs.Wedges.{wedge};
-ghost use Rattle.marks.specs.Parts.{point, IsCorner, IsTurn, IsArea, Pair, Tried};
+// Points within the limits, and the three of a wedge.
+ghost use Rattle.std.specs.Prelude.{◌≡◌, ◌≤◌, ◌<◌, nat_abs};
+ghost use Rattle.outline.specs.Drawing.{corner, corners, turn_of, InRange};
+ghost use Rattle.marks.specs.Lands.{area};
+ghost use Rattle.marks.specs.Sizes.{most_area};
+ghost use Rattle.marks.specs.Carry.{point_of};
+ghost use Rattle.marks.specs.Parts.{point, Within, Below, IsTriangle};
 
-use crate::Landing;
-use crate::place::placed;
+use crate::Mark;
+use crate::sizes::Coordinates;
+use limits::FURTHEST;
 
-#[derive(Clone, Copy)]
-pub struct Coordinates {
-    pub x: i64,
-    pub y: i64,
-}
+impl Coordinates {
+    // The mark, where it is within the limits.
+    pub fn of(mark: Mark) -> Option<Coordinates>
+        ensures { Within (point_of mark) result }
+    {
+        let limits = -FURTHEST..=FURTHEST;
+        if !(limits.contains(&mark.x) && limits.contains(&mark.y)) {
+            return None;
+        }
+        Some(Coordinates {
+            x: i64::from(mark.x),
+            y: i64::from(mark.y),
+        })
+    }
 
-pub fn corner(xy: &[i32], i: usize) -> Coordinates
-    requires { InRange xy.now × (i < corners xy.now) }
-    ensures { IsCorner xy.now i result }
-{
-    Coordinates {
-        x: xy[2 * i] as i64,
-        y: xy[2 * i + 1] as i64,
+    fn corner(xy: &[i32], i: usize) -> Coordinates
+        requires drawing { InRange xy.now }
+        requires below { i < corners xy.now }
+        ensures { point result ≡ corner xy.now i }
+    {
+        Coordinates {
+            x: i64::from(xy[2 * i]),
+            y: i64::from(xy[2 * i + 1]),
+        }
     }
 }
 
 // 01's Turn(a, b, c): twice the area of three corners, above zero where they turn left.
 fn turn(a: Coordinates, b: Coordinates, c: Coordinates) -> i64
-    requires { Close (point a) × Close (point b) × Close (point c) }
-    ensures { IsTurn (point a) (point b) (point c) result }
+    ensures is { result ≡ turn_of (point a) (point b) (point c) }
+    ensures small { nat_abs result ≤ most_area }
 {
     (b.x - a.x) * (c.y - a.y) - (b.y - a.y) * (c.x - a.x)
 }
 
 // Twice the area, whichever way they turn.
-fn area(a: Coordinates, b: Coordinates, c: Coordinates) -> i64
-    requires { Close (point a) × Close (point b) × Close (point c) }
-    ensures { IsArea (point a) (point b) (point c) result }
+pub fn area(a: Coordinates, b: Coordinates, c: Coordinates) -> u64
+    ensures is { result ≡ area (point a) (point b) (point c) }
+    ensures small { result ≤ most_area }
 {
-    let t = turn(a, b, c);
-    if t < 0 { 0 - t } else { t }
+    turn(a, b, c).unsigned_abs()
 }
 
-// The wedge of the centre c with the corners a and b. It holds the mark where the mark's areas with two corners each
-// add up to its own.
-//
-//            b                    u = area(m, a, b), the weight of c
-//           /|\                   v = area(m, b, c), the weight of a
-//          / m \                  t = area(m, c, a), the weight of b
-//         / / \ \
-//        c ------ a
-pub fn land(first: &[i32], second: &[i32], m: Coordinates, c: usize, a: usize, b: usize) -> Landing
-    requires pair { Pair first.now second.now × Close (point m) }
-    requires c_bound { (c < corners first.now) × (a < corners first.now) × (b < corners first.now) }
-    ensures { Tried first.now second.now (point m) (wedge c a b) result }
-{
-    let p = corner(first, c);
-    let q = corner(first, a);
-    let s = corner(first, b);
-    let whole = area(p, q, s);
-    let u = area(m, q, s);
-    let v = area(m, s, p);
-    let t = area(m, p, q);
-    if whole == 0 {
-        return Landing::OnNoPiece;
+// A centre and two corners that follow each other round its piece, by their numbers.
+#[derive(Clone, Copy, PartialEq, Eq, Debug)]
+pub struct Wedge {
+    pub centre: usize,
+    pub from: usize,
+    pub to: usize,
+}
+
+// The corners of a wedge, as they stand in one drawing.
+#[derive(Clone, Copy, PartialEq, Eq, Debug)]
+pub struct Triangle {
+    pub centre: Coordinates,
+    pub from: Coordinates,
+    pub to: Coordinates,
+}
+
+impl Wedge {
+    pub fn triangle(self, xy: &[i32]) -> Triangle
+        requires drawing { InRange xy.now }
+        requires below { Below (corners xy.now) self }
+        ensures { IsTriangle xy.now self result }
+    {
+        Triangle {
+            centre: Coordinates::corner(xy, self.centre),
+            from: Coordinates::corner(xy, self.from),
+            to: Coordinates::corner(xy, self.to),
+        }
     }
-    if u + v + t != whole {
-        return Landing::OnNoPiece;
-    }
-    placed(second, u, v, t, whole, c, a, b)
 }
