@@ -2,6 +2,8 @@
 pub mod Machine
 -- what the corners know, one after the other
 mod Learning
+-- a walk over a mask
+mod Walking
 -- ---- the table of sight as it fills
 -- rows of noughts
 mod Blank

@@ -5,6 +5,7 @@ pub mod Sight
 pub mod Parts
 pub mod Known
 pub mod Table
+pub mod Walk
 -- ---- laws: how one segment meets another, a side from one corner, sight from the open sides, and what the digits of
 -- masks tell of sides and of angles
 pub mod Meeting

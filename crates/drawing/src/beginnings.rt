@@ -11,6 +11,7 @@ ghost use Rattle.drawing.specs.Table.{BeginningsAdded, RowBegun, SideBegun};
 ghost use Rattle.drawing.specs.Known.{Along, AllKnown};
 
 use crate::corners::next;
+use crate::marks::EachMark;
 use crate::masks::Known;
 use crate::seeing::{GRAZED, lies_on};
 use crate::table::put;
@@ -27,17 +28,13 @@ pub fn beginnings(xy: &[i32], known: [Known; MOST_CORNERS], cells: &mut [u8])
     }
 }
 
-// From one mark to the next.
 fn along_sides(xy: &[i32], cells: &mut [u8], i: usize, along: u64)
     requires limits { Limits xy.now × Sound xy.now × (i < corners xy.now) × (all_cells ≤ length cells.old) }
     requires marks { Marks (corners xy.now) along (Along xy.now i) }
     ensures { RowBegun xy.now i cells.old cells.new }
 {
-    let mut rest = along;
-    while rest != 0 {
-        let k = u64::trailing_zeros(rest) as usize;
+    for k in EachMark(along) {
         along_side(xy, cells, i, k);
-        rest = rest & (rest - 1);
     }
 }
 

@@ -10,6 +10,7 @@ ghost use Rattle.drawing.specs.Sight.{Told, Sight};
 mod beginnings;
 mod corners;
 mod faced;
+mod marks;
 mod masks;
 mod parting;
 mod seeing;

@@ -13,6 +13,7 @@ ghost use Rattle.drawing.specs.Parts.{Limits};
 ghost use Rattle.drawing.specs.Table.{Looked, Code};
 
 use crate::corners::{corner, next, prev};
+use crate::marks::EachMark;
 use crate::masks::Known;
 use crate::segment::{Met, dot, meet, turn};
 
@@ -73,19 +74,15 @@ fn angle(xy: &[i32], i: usize, need: u64, j: usize, left: u64) -> bool
     (left >> i) % 2 + (left >> h) % 2 >= need
 }
 
-// Of two corners inside each other's angles: the open sides, from one mark to the next, until one is met.
+// Of two corners inside each other's angles: the open sides, until one is met.
 fn look_along(xy: &[i32], sides: u64, i: usize, j: usize) -> u8
     requires limits { Limits xy.now × Sound xy.now × (i < corners xy.now) × (j < corners xy.now) }
     requires angle { Angle xy.now i j × Angle xy.now j i × Looks xy.now i j sides }
     ensures { Code xy.now i j result }
 {
-    let mut rest = sides;
-    while rest != 0 {
-        let k = u64::trailing_zeros(rest) as usize;
+    for k in EachMark(sides) {
         match meet_side(xy, i, j, k) {
-            Met::Missed => {
-                rest = rest & (rest - 1);
-            }
+            Met::Missed => {}
             Met::Touched => {
                 return GRAZED + touched(xy, i, j, k) as u8;
             }

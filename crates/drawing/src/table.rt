@@ -12,6 +12,7 @@ ghost use Rattle.drawing.specs.Known.{Knows, AllKnown};
 use crate::beginnings::beginnings;
 use crate::corners::next;
 use crate::faced::{angles, faced};
+use crate::marks::EachMark;
 use crate::masks::{Known, learn};
 use crate::parting::settle;
 use crate::seeing::{SEEN, look};
@@ -61,7 +62,7 @@ fn neighbours(xy: &[i32], cells: &mut [u8])
     }
 }
 
-// Of each corner i, the pairs with those after it that have i inside the angle: from one mark to the next.
+// Of each corner i, the pairs with those after it that have i inside the angle.
 fn rows(xy: &[i32], known: [Known; MOST_CORNERS], cells: &mut [u8])
     requires limits { Limits xy.now × Sound xy.now × AllKnown xy.now (corners xy.now) known }
     requires all_cells_in_bounds { all_cells ≤ length cells.old }
@@ -71,12 +72,10 @@ fn rows(xy: &[i32], known: [Known; MOST_CORNERS], cells: &mut [u8])
     let bends = angles(known, n);
     for i in 0..n {
         let a = known[i];
-        let mut rest = faced(a.left, bends, n) >> i;
-        while rest != 0 {
-            let j = i + u64::trailing_zeros(rest) as usize;
+        for k in EachMark(faced(a.left, bends, n) >> i) {
+            let j = i + k;
             let b = known[j];
             decide(xy, cells, i, a, j, b);
-            rest = rest & (rest - 1);
         }
     }
 }

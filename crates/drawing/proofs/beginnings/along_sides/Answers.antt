@@ -1,57 +1,54 @@
 -- `drawing::beginnings::along_sides` meets its contract: the sides whose marks are passed are told.
-use mathlib.Core.Path.{refl}
-use Prim.Native.Nat.{◌≤◌, ◌<◌}
-use native.Mathlib.Omega.{arith}
+use mathlib.Core.Path.{◌≡◌, refl, sym, subst}
+use Prim.Native.Nat.{◌<◌, ◌≤◌}
+use Rattle.std.proofs.Common.{rules, arith}
 use lib.ListN.{length}
 use Rattle.limits.specs.Limits.{all_cells}
-use Rattle.whole.specs.Masks.{mark, scan_start, scan_mark, scan_less, scan_more, mark_below}
+use Rattle.whole.specs.Masks.{scan_start}
 use Rattle.outline.specs.Drawing.{corners}
 use Rattle.drawing.specs.Known.{Along}
+use Rattle.drawing.specs.Table.{Grows}
 use Rattle.drawing.proofs.Growing.{grows_on}
-use Rattle.drawing.proofs.Begun.{row_begin, row_begun, side_begun}
+use Rattle.drawing.proofs.Begun.{RowBegunTo, row_begin, row_begun, side_begun}
+use Rattle.drawing.proofs.Walking.{next_marked, next_passed}
 use Rattle.drawing.proofs.beginnings.along_sides.Goals as goal
+use Rattle.drawing.proofs.beginnings.along_sides.Goals.{In-Some}
 
-pub loop-rest-init : goal.loop-rest-init
-loop-rest-init c = (scan_start c.ranges.along.fits, row_begin c.requires.marks)
+-- corner i is along the side of the next mark
+here : (c : In-Some) → let s = c.args in (c.in-Some.k < corners s.xy.now) × Along s.xy.now s.i c.in-Some.k
+here c = c.requires.marks.yes _ (next_marked c.loop-k.invariant.scan c.in-Some.ensures.steps)
 
-pub overflow_cast-k : goal.overflow_cast-k
-overflow_cast-k c = let l = mark_below c.loop-rest.invariant.0 c.loop-rest-test.true in omega (arith, l)
+pub loop-k-init : goal.loop-k-init
+loop-k-init c =
+    let e : c.into_iter-k-iterator.result.0 ≡ c.args.along = search rules in
+    record {
+      can_next = tt;
+      is_finite = tt;
+      scan = rw e (scan_start c.ranges.along.fits);
+      grown = rw e (row_begin c.requires.marks);
+    }
 
-pub along_side-requires : goal.along_side-requires
-along_side-requires c =
-    let here : let s = c.args in
-    let k = mark c.loop-rest.rest in
-    (k < corners s.xy.now) × Along s.xy.now s.i k =
-    c.requires.marks.yes _ (scan_mark c.loop-rest.invariant.0 c.loop-rest-test.true) in
-    let room : all_cells ≤ length c.loop-rest.cells =
-    omega (arith, c.requires.limits.3, c.loop-rest.invariant.1.size) in
+pub along_side-requires-clause-k_bound : goal.along_side-requires-clause-k_bound
+along_side-requires-clause-k_bound c = here (goal.at.along_side-requires-clause-k_bound c).In-Some
+
+pub loop-k-preserved : goal.loop-k-preserved
+loop-k-preserved c =
+    let side = here (goal.at.loop-k-preserved c).In-Some in
+    let loop = c.loop-k.invariant in
+    let n = c.in-Some.ensures.steps in
     let h = c.requires.limits in
-    record { limits = (h.0, h.1, h.2, room); k_bound = here }
-
-pub overflow_sub-rest : goal.overflow_sub-rest
-overflow_sub-rest c = let n = c.loop-rest-test.true in omega (arith, n)
-
-pub loop-rest-smaller : goal.loop-rest-smaller
-loop-rest-smaller c =
-    scan_less c.loop-rest.invariant.0 c.loop-rest-test.true
-
-pub loop-rest-preserved : goal.loop-rest-preserved
-loop-rest-preserved c =
-    let here : let s = c.args in
-    let k = mark c.loop-rest.rest in
-    (k < corners s.xy.now) × Along s.xy.now s.i k =
-    c.requires.marks.yes _ (scan_mark c.loop-rest.invariant.0 c.loop-rest-test.true) in
-    let room : all_cells ≤ length c.loop-rest.cells =
-    omega (arith, c.requires.limits.3, c.loop-rest.invariant.1.size) in
-    let h = c.requires.limits in
-    let inv = c.loop-rest.invariant in
-    let n = c.loop-rest-test.true in
-    let next = side_begun h.1 h.2 _ _ here.0 here.1 inv.0.fits n refl _ _ room
-    c.along_side.ensures in
-    (scan_more inv.0 n refl, grows_on inv.1 next)
-
-pub shape_of-cells : goal.shape_of-cells
-shape_of-cells c = c.loop-rest.invariant.1.size
+    let room : all_cells ≤ length c.loop-k.cells = omega (arith, h.3, loop.grown.size) in
+    let d = c.args.xy.now in
+    let begun = RowBegunTo d c.args.i in
+    let told = side_begun h.1 h.2 _ _ side.0 side.1 loop.scan.fits n.0 n.1 _ _ room c.along_side.ensures in
+    record {
+      can_next = tt;
+      is_finite = tt;
+      scan = next_passed loop.scan n refl;
+      grown = grows_on loop.grown
+          (subst (λ x. Grows d (begun c.loop-k.k-iterator.0) (begun x) c.loop-k.cells c.along_side.new.cells) (sym n.2)
+          told);
+    }
 
 pub returns : goal.returns
-returns c = grows_on c.loop-rest.invariant.1 (row_begun c.loop-rest-test.false)
+returns c = grows_on c.loop-k.invariant.grown (row_begun c.in-None.ensures.steps.0)

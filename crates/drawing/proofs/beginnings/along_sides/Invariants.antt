@@ -5,10 +5,10 @@ use Rattle.drawing.specs.Table.{Begun, Grows}
 use Rattle.drawing.proofs.Begun.{RowBegunTo}
 use Rattle.drawing.proofs.beginnings.along_sides.Given as goal
 
-abbrev pub invariant-loop-rest : goal.invariant-loop-rest
-invariant-loop-rest l =
-    Scan l.along l.rest (λ k. k ≡ k) ×
-    Grows l.xy (Begun l.xy l.i) (RowBegunTo l.xy l.i l.rest) l.initial.cells l.cells
-
-abbrev pub decreases-loop-rest : goal.decreases-loop-rest
-decreases-loop-rest l = l.rest
+abbrev pub invariant-loop-k : goal.invariant-loop-k
+invariant-loop-k l = record {
+  can_next : (goal.iterator-loop-k).can_next l.k-iterator;
+  is_finite : (goal.iterator-loop-k).is_finite l.k-iterator;
+  scan : Scan l.along l.k-iterator.0 (λ k. k ≡ k);
+  grown : Grows l.xy (Begun l.xy l.i) (RowBegunTo l.xy l.i l.k-iterator.0) l.initial.cells l.cells;
+}

@@ -3,8 +3,9 @@ use Rattle.whole.specs.Masks.{Scan}
 use Rattle.drawing.specs.Known.{Hides}
 use Rattle.drawing.proofs.seeing.look_along.Given as goal
 
-abbrev pub invariant-loop-rest : goal.invariant-loop-rest
-invariant-loop-rest l = Scan l.sides l.rest (λ k. ¬ Hides l.xy l.i l.j k)
-
-abbrev pub decreases-loop-rest : goal.decreases-loop-rest
-decreases-loop-rest l = l.rest
+abbrev pub invariant-loop-k : goal.invariant-loop-k
+invariant-loop-k l = record {
+  can_next : (goal.iterator-loop-k).can_next l.k-iterator;
+  is_finite : (goal.iterator-loop-k).is_finite l.k-iterator;
+  scan : Scan l.sides l.k-iterator.0 (λ k. ¬ Hides l.xy l.i l.j k);
+}

@@ -1,161 +1,101 @@
 -- `drawing::table::rows` meets its contract: the pairs of the corners before i, with every corner, are decided; and of
 -- corner i those whose marks are passed.
-use mathlib.Core.Path.{◌≡◌, refl}
-use Prim.Native.Nat.{◌^◌, ◌≤◌, ◌<◌}
-use native.Mathlib.Omega.{arith}
+use mathlib.Core.Path.{◌≡◌, refl, sym, ap, subst}
+use Prim.Native.Nat.{◌+◌, ◌/◌, ◌^◌, ◌≤◌, ◌<◌}
+use Rattle.std.proofs.Common.{rules, arith}
 use lib.ListN.{length}
 use Rattle.limits.specs.Limits.{all_cells}
-use Rattle.whole.specs.Bits.{shifted_below}
-use Rattle.whole.specs.Masks.{mark, scan_start, scan_mark, scan_less, scan_more, mark_below}
-use Rattle.outline.specs.Drawing.{corners}
+use Rattle.whole.specs.Bits.{bit, shifted_below}
+use Rattle.whole.specs.Masks.{scan_start}
+use Rattle.outline.specs.Drawing.{corners, Angle}
 use Rattle.drawing.specs.Faced.{faced_marks}
+use Rattle.drawing.specs.Known.{FacedBy}
+use Rattle.drawing.specs.Table.{Grows}
 use Rattle.drawing.proofs.Growing.{grows_on}
-use Rattle.drawing.proofs.Rows.{row_start, row_next, row_decided, row_end, rows_first}
+use Rattle.drawing.proofs.Rows.{RowDone, row_start, row_next, row_decided, row_end, rows_first}
+use Rattle.drawing.proofs.Walking.{next_marked, next_passed}
 use Rattle.drawing.proofs.table.rows.Goals as goal
-
-pub angles-bends-requires : goal.angles-bends-requires
-angles-bends-requires c = c.requires.limits.0.shaped.few
+use Rattle.drawing.proofs.table.rows.Goals.{After-faced, In-Some}
 
 pub loop-i-init : goal.loop-i-init
 loop-i-init c = (omega arith, rows_first)
 
-pub offset_bounds-known-i : goal.offset_bounds-known-i
-offset_bounds-known-i c =
-    omega (arith, c.requires.limits.0.shaped.few, c.loop-i-test.true)
-
-pub bounds-known-i : goal.bounds-known-i
-bounds-known-i c =
-    omega (arith, c.requires.limits.0.shaped.few, c.loop-i-test.true)
-
-pub faced-requires : goal.faced-requires
-faced-requires c =
-    let h = c.requires in
-    (h.limits.0.shaped.enough, h.limits.0.shaped.few, (h.limits.2 _ c.loop-i-test.true).left_fits)
-
-pub overflow_shr-rest : goal.overflow_shr-rest
-overflow_shr-rest c =
-    omega (arith, c.requires.limits.0.shaped.few, c.loop-i-test.true)
-
-pub loop-rest-init : goal.loop-rest-init
-loop-rest-init c =
+-- the corners that have corner i inside the angle
+faces : (c : After-faced) → FacedBy c.args.xy.now c.loop-i.i c.faced.result
+faces c =
     let bends = c.angles-bends.ensures in
     let known = c.requires.limits.2 in
-    let left = (known _ c.loop-i-test.true).left_of in
-    let faces = faced_marks c.args.xy.now c.loop-i.i c.args.known c.faced.ensures known left bends.two bends.one in
-    let small = shifted_below c.faced.result c.loop-i.i in
+    faced_marks c.args.xy.now c.loop-i.i c.args.known c.faced.ensures known (known _ c.loop-i-test.true).left_of
+    bends.two bends.one
+
+-- that of the next mark is one
+here : (c : In-Some) → FacedBy c.args.xy.now c.loop-i.i c.faced.result → let j = c.loop-i.i + c.in-Some.k in
+    (j < corners c.args.xy.now) × (j < 64) × Angle c.args.xy.now j c.loop-i.i
+here c f =
+    let e : c.into_iter-k-iterator.result.0 ≡ c.faced.result / 2 ^ c.loop-i.i = search rules in
+    let marked = next_marked c.loop-k.invariant.scan c.in-Some.ensures.steps in
+    row_next c.args.xy.now c.loop-i.i c.faced.result c.in-Some.k f
+    (subst (λ x. bit x c.in-Some.k ≡ 1) e marked) c.requires.limits.0.shaped.few
+
+pub loop-k-init : goal.loop-k-init
+loop-k-init c =
+    let i = c.loop-i.i in
+    let e : c.into_iter-k-iterator.result.0 ≡ c.faced.result / 2 ^ i = search rules in
     let fits : c.faced.result < 2 ^ 64 = c.faced.type_inv in
-    let sound = c.requires.limits.1 in
-    (scan_start (omega (arith, small, fits)), row_start sound c.loop-i-test.true faces)
-
-pub overflow_cast-j : goal.overflow_cast-j
-overflow_cast-j c = let l = mark_below c.loop-rest.invariant.0 c.loop-rest-test.true in omega (arith, l)
-
-pub overflow_add-j : goal.overflow_add-j
-overflow_add-j c =
-    let bends = c.angles-bends.ensures in
-    let known = c.requires.limits.2 in
-    let left = (known _ c.loop-i-test.true).left_of in
-    let faces = faced_marks c.args.xy.now c.loop-i.i c.args.known c.faced.ensures known left bends.two bends.one in
-    let next = scan_mark c.loop-rest.invariant.0 c.loop-rest-test.true in
-    let k = mark c.loop-rest.rest in
-    let few = c.requires.limits.0.shaped.few in
-    let here = row_next c.args.xy.now c.loop-i.i c.faced.result k faces next few in
-    omega (arith, here.1)
-
-pub offset_bounds-known-j : goal.offset_bounds-known-j
-offset_bounds-known-j c =
-    let bends = c.angles-bends.ensures in
-    let known = c.requires.limits.2 in
-    let left = (known _ c.loop-i-test.true).left_of in
-    let faces = faced_marks c.args.xy.now c.loop-i.i c.args.known c.faced.ensures known left bends.two bends.one in
-    let next = scan_mark c.loop-rest.invariant.0 c.loop-rest-test.true in
-    let k = mark c.loop-rest.rest in
-    let few = c.requires.limits.0.shaped.few in
-    let here = row_next c.args.xy.now c.loop-i.i c.faced.result k faces next few in
-    omega (arith, here.1)
-
-pub bounds-known-j : goal.bounds-known-j
-bounds-known-j c =
-    let bends = c.angles-bends.ensures in
-    let known = c.requires.limits.2 in
-    let left = (known _ c.loop-i-test.true).left_of in
-    let faces = faced_marks c.args.xy.now c.loop-i.i c.args.known c.faced.ensures known left bends.two bends.one in
-    let next = scan_mark c.loop-rest.invariant.0 c.loop-rest-test.true in
-    let k = mark c.loop-rest.rest in
-    let few = c.requires.limits.0.shaped.few in
-    let here = row_next c.args.xy.now c.loop-i.i c.faced.result k faces next few in
-    here.1
-
-pub decide-requires : goal.decide-requires
-decide-requires c =
-    let bends = c.angles-bends.ensures in
-    let known = c.requires.limits.2 in
-    let left = (known _ c.loop-i-test.true).left_of in
-    let faces = faced_marks c.args.xy.now c.loop-i.i c.args.known c.faced.ensures known left bends.two bends.one in
-    let next = scan_mark c.loop-rest.invariant.0 c.loop-rest-test.true in
-    let k = mark c.loop-rest.rest in
-    let few = c.requires.limits.0.shaped.few in
-    let here = row_next c.args.xy.now c.loop-i.i c.faced.result k faces next few in
-    let loop = c.loop-i in
-    let h = c.requires in
-    let l = c.loop-i-test.true in
-    let room : all_cells ≤ length c.loop-rest.cells =
-    omega (arith, h.all_cells_in_bounds, loop.invariant.1.size, c.loop-rest.invariant.1.size) in
     record {
-      limits = (h.limits.0, h.limits.1, room);
-      i_bound = (l, here.0, here.2);
-      knows = (h.limits.2 _ l, h.limits.2 _ here.0);
+      can_next = tt;
+      is_finite = tt;
+      scan = rw e (scan_start (omega (arith, shifted_below c.faced.result i, fits)));
+      grown = rw e (row_start c.requires.limits.1 c.loop-i-test.true (faces (goal.at.loop-k-init c).After-faced));
     }
 
-pub overflow_sub-rest : goal.overflow_sub-rest
-overflow_sub-rest c = let n = c.loop-rest-test.true in omega (arith, n)
+pub bounds-known-j : goal.bounds-known-j
+bounds-known-j c = let at = goal.at.bounds-known-j c in (here at.In-Some (faces at.After-faced)).1
 
-pub loop-rest-smaller : goal.loop-rest-smaller
-loop-rest-smaller c =
-    scan_less c.loop-rest.invariant.0 c.loop-rest-test.true
+pub decide-requires-clause-i_bound : goal.decide-requires-clause-i_bound
+decide-requires-clause-i_bound c =
+    let at = goal.at.decide-requires-clause-i_bound c in
+    let next = here at.In-Some (faces at.After-faced) in (c.loop-i-test.true, next.0, next.2)
 
-pub loop-rest-preserved : goal.loop-rest-preserved
-loop-rest-preserved c =
-    let bends = c.angles-bends.ensures in
+pub decide-requires-clause-knows : goal.decide-requires-clause-knows
+decide-requires-clause-knows c =
+    let at = goal.at.decide-requires-clause-knows c in
+    let next = here at.In-Some (faces at.After-faced) in
     let known = c.requires.limits.2 in
-    let left = (known _ c.loop-i-test.true).left_of in
-    let faces = faced_marks c.args.xy.now c.loop-i.i c.args.known c.faced.ensures known left bends.two bends.one in
-    let next = scan_mark c.loop-rest.invariant.0 c.loop-rest-test.true in
-    let k = mark c.loop-rest.rest in
-    let few = c.requires.limits.0.shaped.few in
-    let here = row_next c.args.xy.now c.loop-i.i c.faced.result k faces next few in
-    let loop = c.loop-i in
+    (known _ c.loop-i-test.true, known _ next.0)
+
+pub loop-k-preserved : goal.loop-k-preserved
+loop-k-preserved c =
+    let at = goal.at.loop-k-preserved c in
+    let next = here at.In-Some (faces at.After-faced) in
+    let loop = c.loop-k.invariant in
+    let n = c.in-Some.ensures.steps in
     let h = c.requires in
-    let inv = c.loop-rest.invariant in
-    let n = c.loop-rest-test.true in
-    let room : all_cells ≤ length c.loop-rest.cells =
-    omega (arith, h.all_cells_in_bounds, loop.invariant.1.size, inv.1.size) in
-    let more = row_decided h.limits.1 c.loop-i-test.true here.0 room
-    inv.0.fits n refl c.decide.ensures in
-    (scan_more inv.0 n refl, grows_on inv.1 more)
-
-pub overflow_step-i : goal.overflow_step-i
-overflow_step-i c =
-    omega (arith, c.requires.limits.0.shaped.few, c.loop-i-test.true)
-
-pub loop-i-smaller : goal.loop-i-smaller
-loop-i-smaller c = omega (arith, c.loop-i-test.true)
+    let room : all_cells ≤ length c.loop-k.cells =
+    omega (arith, h.all_cells_in_bounds, c.loop-i.invariant.1.size, loop.grown.size) in
+    let d = c.args.xy.now in
+    let i = c.loop-i.i in
+    let is = ap (λ k. i + k) n.1 in
+    let told = row_decided h.limits.1 c.loop-i-test.true next.0 room loop.scan.fits n.0 is c.decide.ensures in
+    let done = RowDone d i in
+    record {
+      can_next = tt;
+      is_finite = tt;
+      scan = next_passed loop.scan n refl;
+      grown = grows_on loop.grown
+          (subst (λ x. Grows d (done c.loop-k.k-iterator.0) (done x) c.loop-k.cells c.decide.new.cells) (sym n.2)
+          told);
+    }
 
 pub loop-i-preserved : goal.loop-i-preserved
 loop-i-preserved c =
-    let sound = c.requires.limits.1 in
-    let l = c.loop-i-test.true in (
-      omega (arith, l),
-      grows_on c.loop-i.invariant.1
-          (grows_on c.loop-rest.invariant.1 (row_end sound l c.loop-rest-test.false)),
-    )
-
-pub shape_of-cells : goal.shape_of-cells
-shape_of-cells c = c.loop-i.invariant.1.size
+    let l = c.loop-i-test.true in
+    let over = c.in-None.ensures.steps.0 in
+    let row = grows_on c.loop-k.invariant.grown (row_end c.requires.limits.1 l over) in
+    (omega (arith, l), grows_on c.loop-i.invariant.1 row)
 
 pub returns : goal.returns
 returns c =
     let loop = c.loop-i in
-    let all : loop.i ≡ corners c.args.xy.now =
-    omega (arith, loop.invariant.0, c.loop-i-test.false) in
+    let all : loop.i ≡ corners c.args.xy.now = omega (arith, loop.invariant.0, c.loop-i-test.false) in
     rw all at loop.invariant.1

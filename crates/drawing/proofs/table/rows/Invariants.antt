@@ -8,13 +8,13 @@ use Rattle.drawing.specs.Table.{Early, RowsDone, Grows}
 use Rattle.drawing.proofs.Rows.{RowDone}
 use Rattle.drawing.proofs.table.rows.Given as goal
 
-abbrev pub invariant-loop-rest : goal.invariant-loop-rest
-invariant-loop-rest l =
-    Scan l.initial.rest l.rest (λ k. k ≡ k) ×
-    Grows l.xy (RowsDone l.xy l.i) (RowDone l.xy l.i l.rest) l.initial.cells l.cells
-
-abbrev pub decreases-loop-rest : goal.decreases-loop-rest
-decreases-loop-rest l = l.rest
+abbrev pub invariant-loop-k : goal.invariant-loop-k
+invariant-loop-k l = record {
+  can_next : (goal.iterator-loop-k).can_next l.k-iterator;
+  is_finite : (goal.iterator-loop-k).is_finite l.k-iterator;
+  scan : Scan l.initial.k-iterator.0 l.k-iterator.0 (λ k. k ≡ k);
+  grown : Grows l.xy (RowsDone l.xy l.i) (RowDone l.xy l.i l.k-iterator.0) l.initial.cells l.cells;
+}
 
 abbrev pub invariant-loop-i : goal.invariant-loop-i
 invariant-loop-i l = (l.i ≤ corners l.xy) × Grows l.xy (Early l.xy) (RowsDone l.xy l.i) l.initial.cells l.cells
