@@ -10,10 +10,8 @@ pub fn reply(first: &[i32], second: &[i32], out: &mut [u8], at: usize) -> usize
     ensures { Laid (pair first.now second.now) out.old at result out.new }
 {
     let mut room = [0u8; ROOM];
-    let outcome = desk::answer(first, second, &mut room);
-    if outcome.number != 0 {
-        return frames::answer::refusal_line(outcome.number, out, at);
+    match desk::answer(first, second, &mut room) {
+        Ok(told) => frames::answer::answer_line(told.pieces as u8, &room[..told.bytes], out, at),
+        Err(refusal) => frames::answer::refusal_line(u8::from(refusal), out, at),
     }
-    let bytes = outcome.bytes;
-    frames::answer::answer_line(outcome.pieces as u8, &room[..bytes], out, at)
 }
