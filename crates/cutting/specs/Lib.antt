@@ -10,3 +10,5 @@ pub mod Unique
 pub mod Rows
 -- the set of pairs as it grows
 pub mod Tracing
+-- the same, of what the code's structs hold
+pub mod Held

@@ -31,13 +31,6 @@ pick_in val left right col i j = pick_of none one (cell val) (cell left) (cell c
 abbrev pub EveryIn : List ℕ → List ℕ → List ℕ → ℕ → ℕ → ℕ → Type 0
 EveryIn val left col j x c = Every none one (cell val) (cell left) (cell col) j x c
 
--- the tables can be read for pieces whose last corner is j
-pub record Routes (val left col : List ℕ) (j : ℕ) : Type 0 where
-  pub val_size : length val ≡ all_cells
-  pub left_size : length left ≡ all_cells
-  pub col_size : length col ≡ all_cells
-  pub last : j < row
-
 -- r is the lowest centre of the line i j that fits; j where none before it does
 pub record LowestFit (val left right : List ℕ) (i j r : ℕ) : Type 0 where
   pub from : i ≤ r
@@ -103,20 +96,10 @@ pub record Started (pairs : List ℕ) (n : ℕ) : Type 0 where
   pub whole : T (marked pairs 0 (n - 1))
   pub only : (c d : ℕ) → T (marked pairs c d) → (c ≡ 0) × (d ≡ n - 1)
 
--- there are such tables; and whichever they are, they are so afterwards
-abbrev pub Traceable : List ℕ → List ℕ → List ℕ → List ℕ → List ℕ → ℕ → ℕ → Type 0
-Traceable veil val left right pairs i j = (cuts : List ℕ) × (n : ℕ) × Tracing cuts veil val left right n pairs i j
-
-abbrev pub Goes : List ℕ → List ℕ → List ℕ → List ℕ → List ℕ → ℕ → ℕ → List ℕ → ℕ → ℕ → Type 0
-Goes veil val left right before i j after i' j' =
-    (cuts : List ℕ) (n : ℕ) → Tracing cuts veil val left right n before i j →
-    Tracing cuts veil val left right n after i' j'
-
--- the centre x has the piece that is taken on the line i j, where that is in the set: by whichever tables
-abbrev pub Chosen : List ℕ → List ℕ → List ℕ → List ℕ → List ℕ → ℕ → ℕ → ℕ → Type 0
-Chosen veil val left right col i j x =
-    (cuts : List ℕ) (n : ℕ) (pairs : List ℕ) (t : Tracing cuts veil val left right n pairs i j) →
-    T (marked pairs i j) →
+-- the centre x has the piece that is taken on the line i j, where that is in the set: whichever the set
+abbrev pub Chosen : List ℕ → List ℕ → List ℕ → List ℕ → List ℕ → ℕ → List ℕ → ℕ → ℕ → ℕ → Type 0
+Chosen cuts veil val left right n col i j x =
+    (pairs : List ℕ) (t : Tracing cuts veil val left right n pairs i j) → T (marked pairs i j) →
     (x ≤ j) × (choice_of none one (cell val) t.road i j ≡ rest_in val left col x j i)
 
 -- ---- the whole
@@ -131,12 +114,6 @@ pub record Solves (cuts veil val left right : List ℕ) (n : ℕ) : Type 0 where
 pub record Drawn (cuts veil : List ℕ) (n : ℕ) (pairs : List ℕ) : Type 0 where
   pub ticks : Ticks pairs
   pub first : First (Cut cuts) (HasCentre (Sees (cell veil))) one n (marked pairs)
-
-abbrev pub Solvable : List ℕ → List ℕ → List ℕ → List ℕ → ℕ → Type 0
-Solvable veil val left right n = (cuts : List ℕ) × Solves cuts veil val left right n
-
-abbrev pub Draws : List ℕ → List ℕ → List ℕ → List ℕ → ℕ → List ℕ → Type 0
-Draws veil val left right n after = (cuts : List ℕ) → Solves cuts veil val left right n → Drawn cuts veil n after
 
 -- a search by the readings: the set is the first smallest cutting, or no set is valid and the array is as before
 pub record Finds (cuts veil : List ℕ) (n : ℕ) (before after : List ℕ) (r : Bool) : Type 0 where

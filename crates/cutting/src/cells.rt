@@ -5,21 +5,23 @@
 //       . . . . .
 //     a . . # . .      the cell of a and b stands at a * ROW + b
 //       . . . . .
-ghost use Rattle.std.specs.Prelude.{◌≡◌, ◌<◌, ◌≤◌, length, set};
-ghost use Rattle.limits.specs.Limits.{row, all_cells, place};
+ghost use Rattle.std.specs.Prelude.{◌≡◌, ◌<◌, set};
+ghost use Rattle.limits.specs.Limits.{row, place};
 ghost use Rattle.rules.specs.Cells as cells;
 
-use limits::ROW;
+use limits::{ALL_CELLS, ROW};
 
-pub fn cell(t: &[u8], a: usize, b: usize) -> u8
-    requires { (all_cells ≤ length t.now) × (a < row) × (b < row) }
+pub type Table = [u8; ALL_CELLS];
+
+pub fn cell(t: &Table, a: usize, b: usize) -> u8
+    requires { (a < row) × (b < row) }
     ensures { result ≡ cells.cell t.now a b }
 {
     t[a * ROW + b]
 }
 
-pub fn put(t: &mut [u8], a: usize, b: usize, v: u8)
-    requires { (all_cells ≤ length t.old) × (a < row) × (b < row) }
+pub fn put(t: &mut Table, a: usize, b: usize, v: u8)
+    requires { (a < row) × (b < row) }
     ensures { t.new ≡ set t.old (place a b) v }
 {
     t[a * ROW + b] = v;

@@ -14,18 +14,14 @@ mod pieces;
 mod reading;
 mod tracing;
 
-ghost use Rattle.std.specs.Prelude.{◌≡◌, ◌≤◌, length};
-ghost use Rattle.limits.specs.Limits.{fewest_corners, row, all_cells};
-ghost use Rattle.cutting.specs.Rows.{Veil};
-ghost use Rattle.cutting.specs.Tracing.{Finds};
+ghost use Rattle.cutting.specs.Held.{FindsBy};
 ghost use Rattle.cutting.specs.Answer.{Served, Searches};
 
-use cells::cell;
+use cells::{Table, cell};
 use lanes::NONE;
 use limits::{ALL_CELLS, FEWEST_CORNERS, MOST_CORNERS};
-use lines::solve;
-use reading::read;
-use tracing::trace;
+use lines::Tables;
+use reading::Readings;
 
 // Why nothing was found; `number` of `specs/Answer` has 01's number for each case, and `Searches` what is promised.
 #[derive(Clone, Copy, PartialEq, Eq, Debug)]
@@ -35,55 +31,43 @@ pub enum Refusal {
 }
 
 // The tables are filled by the readings, and the set is traced from them, where there is one: the value of the whole
-// range says so.
-fn work(
-    n: usize,
-    cuts: &[u8],
-    veil: &[u8],
-    val: &mut [u8],
-    left: &mut [u8],
-    right: &mut [u8],
-    col: &mut [u8],
-    pairs: &mut [u8],
-) -> bool
-    requires fewest_corners_le_n { (fewest_corners ≤ n) × (n ≤ row) × (all_cells ≤ length cuts.now) × Veil veil.now ×
-        (length pairs.old ≡ all_cells) }
-    requires val_len { (length val.old ≡ all_cells) × (length left.old ≡ all_cells) × (length right.old ≡ all_cells) ×
-        (length col.old ≡ all_cells) }
-    ensures { Finds cuts.now veil.now n pairs.old pairs.new result }
+// range says so. The column is filled anew for each last corner, by the one and by the other.
+fn work(readings: &Readings, tables: &mut Tables, col: &mut Table, pairs: &mut Table) -> bool
+    ensures { FindsBy readings.now pairs.old pairs.new result }
 {
-    solve(cuts, veil, val, left, right, col, n);
-    if cell(val, 0, n - 1) == NONE {
+    tables.solve(readings, col);
+    if cell(&tables.val, 0, readings.n - 1) == NONE {
         return false;
     }
-    trace(veil, val, left, right, col, n, pairs);
+    tables.trace(readings, col, pairs);
     true
 }
 
 // The tables stand in this frame, and no loop beside them.
-fn find(n: usize, cuts: &[u8], veil: &[u8], pairs: &mut [u8]) -> bool
-    requires { (fewest_corners ≤ n) × (n ≤ row) × (all_cells ≤ length cuts.now) × Veil veil.now ×
-        (length pairs.old ≡ all_cells) }
-    ensures { Finds cuts.now veil.now n pairs.old pairs.new result }
+fn find(readings: &Readings, pairs: &mut Table) -> bool
+    ensures { FindsBy readings.now pairs.old pairs.new result }
 {
-    let mut val = [0u8; ALL_CELLS];
-    let mut left = [0u8; ALL_CELLS];
-    let mut right = [0u8; ALL_CELLS];
-    let mut col = [0u8; ALL_CELLS];
-    work(
-        n, cuts, veil, &mut val, &mut left, &mut right, &mut col, pairs,
-    )
+    let mut tables = Tables {
+        val: [0; ALL_CELLS],
+        left: [0; ALL_CELLS],
+        right: [0; ALL_CELLS],
+    };
+    let mut col = [0; ALL_CELLS];
+    work(readings, &mut tables, &mut col, pairs)
 }
 
 // The readings stand in this one: behind it nobody looks at the caller's cells.
-fn frame(n: usize, first: &[u8], second: &[u8], pairs: &mut [u8]) -> Result<(), Refusal>
-    requires { Served n first.now second.now pairs.old × (length pairs.old ≡ all_cells) }
+fn frame(n: usize, first: &Table, second: &Table, pairs: &mut Table) -> Result<(), Refusal>
+    requires { Served n first.now second.now pairs.old }
     ensures { Searches n first.now second.now pairs.old pairs.new result }
 {
-    let mut cuts = [0u8; ALL_CELLS];
-    let mut veil = [0u8; ALL_CELLS];
-    read(first, second, &mut cuts, &mut veil, n);
-    if find(n, &cuts, &veil, pairs) {
+    let mut readings = Readings {
+        n,
+        cuts: [0; ALL_CELLS],
+        veil: [0; ALL_CELLS],
+    };
+    readings.read(first, second);
+    if find(&readings, pairs) {
         Ok(())
     } else {
         Err(Refusal::NoCutting)
@@ -98,13 +82,11 @@ fn frame(n: usize, first: &[u8], second: &[u8], pairs: &mut [u8]) -> Result<(), 
 pub fn search(n: usize, first: &[u8], second: &[u8], pairs: &mut [u8]) -> Result<(), Refusal>
     ensures { Searches n first.now second.now pairs.old pairs.new result }
 {
-    if n < FEWEST_CORNERS
-        || n > MOST_CORNERS
-        || first.len() < ALL_CELLS
-        || second.len() < ALL_CELLS
-        || pairs.len() < ALL_CELLS
-    {
+    if n < FEWEST_CORNERS || n > MOST_CORNERS {
         return Err(Refusal::Unserved);
     }
-    frame(n, first, second, &mut pairs[..ALL_CELLS])
+    let first = first.first_chunk().ok_or(Refusal::Unserved)?;
+    let second = second.first_chunk().ok_or(Refusal::Unserved)?;
+    let pairs = pairs.first_chunk_mut().ok_or(Refusal::Unserved)?;
+    frame(n, first, second, pairs)
 }

@@ -5,17 +5,17 @@
 //     0 ------------------------ n-1      pairs, cell a b: 1 where a b is in the set; at first the whole range alone
 //     0 ---- c ---------- d ---- n-1      then the lines of its piece that are no sides: 0 c, c d, d n-1,
 //                                         and so on under each
-ghost use Rattle.std.specs.Prelude.{◌≡◌, ◌+◌, ◌<◌, ◌≤◌, length};
-ghost use Rattle.limits.specs.Limits.{row, all_cells};
-ghost use Rattle.cutting.specs.Rows.{Veil};
-ghost use Rattle.cutting.specs.Tracing.{Routes, rest_in, Ticks, Ticked, Marked};
-ghost use Rattle.cutting.specs.Tracing.{Traceable, Goes, Started, Solvable, Draws};
+ghost use Rattle.std.specs.Prelude.{◌+◌, ◌<◌, ◌≤◌};
+ghost use Rattle.limits.specs.Limits.{row};
+ghost use Rattle.cutting.specs.Tracing.{rest_in, Ticks, Ticked, Marked, Started};
+ghost use Rattle.cutting.specs.Held.{TracingAt, SolvesBy, DrawnBy};
 
-use crate::cells::{cell, put};
-use crate::pieces::{centre, next};
+use crate::cells::{Table, cell, put};
+use crate::lines::Tables;
+use crate::reading::Readings;
 
 // The pair c d comes into the set, where it is no side.
-fn tick(pairs: &mut [u8], c: usize, d: usize)
+fn tick(pairs: &mut Table, c: usize, d: usize)
     requires { Ticks pairs.old × (c < d) × (d < row) }
     ensures { Ticked pairs.old pairs.new c d }
 {
@@ -24,108 +24,71 @@ fn tick(pairs: &mut [u8], c: usize, d: usize)
     }
 }
 
-// The lines of the piece with the centre x on the line i j.
-fn mark(val: &[u8], left: &[u8], col: &[u8], i: usize, j: usize, x: usize, pairs: &mut [u8])
-    requires { Routes val.now left.now col.now j × (x ≤ j) × (i ≤ j) × Ticks pairs.old }
-    ensures { Marked pairs.old pairs.new i
-        (rest_in val.now left.now col.now x j i) }
-{
-    let mut c = i;
-    while c < j {
-        let d = next(val, left, col, x, j, c);
-        tick(pairs, c, d);
-        c = d;
-    }
-}
-
-// The range i j, where it is in the set: the lines of its piece come into the set.
-fn visit(
-    veil: &[u8],
-    val: &[u8],
-    left: &[u8],
-    right: &[u8],
-    col: &mut [u8],
-    i: usize,
-    j: usize,
-    pairs: &mut [u8],
-)
-    requires veil { Veil veil.now × (length col.old ≡ all_cells) × (i < j) × (j < row) }
-    requires traceable { Traceable veil.now val.now left.now right.now pairs.old i j }
-    ensures { Goes veil.now val.now left.now right.now pairs.old i
-        j pairs.new (i + 1) j }
-{
-    if cell(pairs, i, j) == 0 {
-        return;
-    }
-    let x = centre(veil, val, left, right, col, i, j);
-    mark(val, left, col, i, j, x, pairs);
-}
-
-// The ranges to j.
-fn trace_column(
-    veil: &[u8],
-    val: &[u8],
-    left: &[u8],
-    right: &[u8],
-    col: &mut [u8],
-    j: usize,
-    pairs: &mut [u8],
-)
-    requires veil { Veil veil.now × (length col.old ≡ all_cells) × (j < row) }
-    requires traceable { Traceable veil.now val.now left.now right.now pairs.old row (j + 1) }
-    ensures { Goes veil.now val.now left.now right.now pairs.old
-        row (j + 1) pairs.new row j }
-{
-    for i in 0..j {
-        visit(veil, val, left, right, col, i, j, pairs);
-    }
-}
-
-// Every range of n corners.
-fn trace_all(
-    veil: &[u8],
-    val: &[u8],
-    left: &[u8],
-    right: &[u8],
-    col: &mut [u8],
-    n: usize,
-    pairs: &mut [u8],
-)
-    requires veil { Veil veil.now × (length col.old ≡ all_cells) × (n ≤ row) }
-    requires traceable { Traceable veil.now val.now left.now right.now pairs.old row n }
-    ensures { Goes veil.now val.now left.now right.now pairs.old
-        row n pairs.new row 0 }
-{
-    for j in (0..n).rev() {
-        trace_column(veil, val, left, right, col, j, pairs);
-    }
-}
-
-// No pair is in the set but the whole range.
-fn start(pairs: &mut [u8], n: usize)
-    requires { (length pairs.old ≡ all_cells) × (3 ≤ n) × (n ≤ row) }
+// The whole range alone is in the set.
+fn start(pairs: &mut Table, n: usize)
+    requires { (3 ≤ n) × (n ≤ row) }
     ensures { Started pairs.new n }
 {
     pairs.fill(0);
     put(pairs, 0, n - 1, 1);
 }
 
-// The cutting of finished tables: the whole range is in the set while it is traced, and then goes out, for it is no
-// cut.
-pub fn trace(
-    veil: &[u8],
-    val: &[u8],
-    left: &[u8],
-    right: &[u8],
-    col: &mut [u8],
-    n: usize,
-    pairs: &mut [u8],
-)
-    requires veil { Veil veil.now × (length col.old ≡ all_cells) × (length pairs.old ≡ all_cells) }
-    requires solvable { Solvable veil.now val.now left.now right.now n }
-    ensures { Draws veil.now val.now left.now right.now n pairs.new }
-{
-    start(pairs, n);
-    trace_all(veil, val, left, right, col, n, pairs);
-    put(pairs, 0, n - 1, 0);
+impl Tables {
+    // The lines of the piece with the centre x on the line i j.
+    fn mark(&self, col: &Table, i: usize, j: usize, x: usize, pairs: &mut Table)
+        requires { (x ≤ j) × (i ≤ j) × (j < row) × Ticks pairs.old }
+        ensures { Marked pairs.old pairs.new i (rest_in self.now.val self.now.left col.now x j i) }
+    {
+        let mut c = i;
+        while c < j {
+            let d = self.next(col, x, j, c);
+            tick(pairs, c, d);
+            c = d;
+        }
+    }
+
+    // The range i j, where it is in the set: the lines of its piece come into the set.
+    fn visit(&self, readings: &Readings, col: &mut Table, i: usize, j: usize, pairs: &mut Table)
+        requires in_range { (i < j) × (j < row) }
+        requires tracing { TracingAt readings.now self.now pairs.old i j }
+        ensures { TracingAt readings.now self.now pairs.new (i + 1) j }
+    {
+        if cell(pairs, i, j) == 0 {
+            return;
+        }
+        let x = self.centre(readings, col, i, j);
+        self.mark(col, i, j, x, pairs);
+    }
+
+    // The ranges to j.
+    fn trace_column(&self, readings: &Readings, col: &mut Table, j: usize, pairs: &mut Table)
+        requires in_range { j < row }
+        requires tracing { TracingAt readings.now self.now pairs.old row (j + 1) }
+        ensures { TracingAt readings.now self.now pairs.new row j }
+    {
+        for i in 0..j {
+            self.visit(readings, col, i, j, pairs);
+        }
+    }
+
+    // Every range.
+    fn trace_all(&self, readings: &Readings, col: &mut Table, pairs: &mut Table)
+        requires { TracingAt readings.now self.now pairs.old row readings.now.n }
+        ensures { TracingAt readings.now self.now pairs.new row 0 }
+    {
+        for j in (0..readings.n).rev() {
+            self.trace_column(readings, col, j, pairs);
+        }
+    }
+
+    // The cutting of finished tables: the whole range is in the set while it is traced, and then goes out, for it is
+    // no cut.
+    pub fn trace(&self, readings: &Readings, col: &mut Table, pairs: &mut Table)
+        requires { SolvesBy readings.now self.now }
+        ensures { DrawnBy readings.now pairs.new }
+    {
+        start(pairs, readings.n);
+        self.trace_all(readings, col, pairs);
+        put(pairs, 0, readings.n - 1, 0);
+    }
 }

@@ -1,25 +1,20 @@
 -- `frame`: the readings, and the search by them.
-use Prim.Native.Nat.{ℕ}
-use lib.ListN.{length-replicate}
-use Rattle.limits.specs.Limits.{all_cells}
+use native.Mathlib.Omega.{arith}
 use Rattle.cutting.proofs.Readings.{veil_new}
-use Rattle.cutting.proofs.Answers.{searches_none, searches_found}
+use Rattle.cutting.proofs.Answers.{searches_none, searches_found, searches_as, served_as}
 use Rattle.cutting.proofs.frame.Goals as goal
 
-pub read-requires : goal.read-requires
-read-requires c =
-    let pre = c.requires in
-    record {
-      all_cells_in_bounds = (pre.0.first_cells, pre.0.second_cells, pre.0.most);
-      cuts_len = (length-replicate {0} {A = ℕ} all_cells 0, veil_new);
-    }
+pub invariant_of-readings : goal.invariant_of-readings
+invariant_of-readings c = record { fewest = c.requires.fewest; most = c.requires.most; veils = veil_new }
 
 pub returns-then-find : goal.returns-then-find
 returns-then-find c =
-    let pre = c.requires in
-    searches_found c.read.ensures pre.0 pre.1 c.find.ensures c.if-find.true
+    let e = c.read.ensures.same in
+    searches_as e
+    (searches_found c.read.ensures.after (served_as e c.requires) (omega arith) c.find.ensures c.if-find.true)
 
 pub returns-else-find : goal.returns-else-find
 returns-else-find c =
-    let pre = c.requires in
-    searches_none c.read.ensures pre.0 c.find.ensures c.if-find.false
+    let e = c.read.ensures.same in
+    searches_as e
+    (searches_none c.read.ensures.after (served_as e c.requires) c.find.ensures c.if-find.false)

@@ -1,36 +1,39 @@
--- `search`: what is not served, and the first part of the array.
-use mathlib.Core.Path.{sym}
+-- `search`: what is not served, and the first cells of the arrays.
 use native.Mathlib.Omega.{arith}
-use Rattle.cutting.proofs.Answers.{searches_not, part_size, served_part, searches_part}
+use Rattle.limits.specs.Limits.{all_cells}
+use Rattle.std.specs.Array.{IsFirstChunk}
+use Rattle.cutting.proofs.Answers.{chunk_of, searches_short, served_chunks, searches_chunks}
 use Rattle.cutting.proofs.search.Goals as goal
 
-pub returns-then-n-lt-FEWEST_CORNERS : goal.returns-then-n-lt-FEWEST_CORNERS
-returns-then-n-lt-FEWEST_CORNERS c = searches_not (λ s. omega (arith, c.then-n-lt-FEWEST_CORNERS.either))
+pub returns-in_err-second : goal.returns-in_err-second
+returns-in_err-second c =
+    searches_short c.first_chunk-2.result c.ok_or-2.result c.in_err-second.field-0.0 _
+    c.from_residual-in_err-second.result c.ok_or-2.ensures.value c.in_err-second.was
+    c.from_residual-in_err-second.ensures (λ z g. g) _ c.first_chunk-2.ensures.variant (λ s. s.second_cells)
 
--- ---- after the five tests
-pub slice_bounds-frame-end-2 : goal.slice_bounds-frame-end-2
-slice_bounds-frame-end-2 c = sym (part_size c.args.pairs.now (omega arith))
+pub returns-in_err-pairs : goal.returns-in_err-pairs
+returns-in_err-pairs c =
+    searches_short c.first_chunk_mut.result c.ok_or-3.result c.in_err-pairs.field-0.0 _
+    c.from_residual-in_err-pairs.result c.ok_or-3.ensures.value c.in_err-pairs.was
+    c.from_residual-in_err-pairs.ensures (λ z g. g) _ c.first_chunk_mut.ensures.variant (λ s. s.pairs_cells)
 
 pub frame-requires : goal.frame-requires
 frame-requires c =
-    served_part {before = c.args.pairs.now}
-    record {
-      fewest = omega arith;
-      most = omega arith;
-      first_cells = omega arith;
-      second_cells = omega arith;
-      pairs_cells = omega arith;
-    }
+    served_chunks (omega arith) (omega arith)
+    (chunk_of (λ y. IsFirstChunk c.args.first.now y.now all_cells) _ c.first_chunk.result c.ok_or.result
+    c.in_ok-first.first c.ok_or.ensures.value c.in_ok-first.was c.first_chunk.ensures.cases)
+    (chunk_of (λ y. IsFirstChunk c.args.second.now y.now all_cells) _ c.first_chunk-2.result c.ok_or-2.result
+    c.in_ok-second.second c.ok_or-2.ensures.value c.in_ok-second.was c.first_chunk-2.ensures.cases)
+    (chunk_of (λ y. IsFirstChunk c.args.pairs.now y.now all_cells) _ c.first_chunk_mut.result c.ok_or-3.result
+    c.in_ok-pairs.pairs c.ok_or-3.ensures.value c.in_ok-pairs.was c.first_chunk_mut.ensures.cases)
 
 pub returns : goal.returns
 returns c =
-    let pairs = c.args.pairs.now in
-    searches_part {before = pairs}
-    record {
-      fewest = omega arith;
-      most = omega arith;
-      first_cells = omega arith;
-      second_cells = omega arith;
-      pairs_cells = omega arith;
-    }
-    (omega (arith, c.frame.auto.pairs, part_size pairs (omega arith))) c.frame.ensures
+    searches_chunks (omega arith) (omega arith)
+    (chunk_of (λ y. IsFirstChunk c.args.first.now y.now all_cells) _ c.first_chunk.result c.ok_or.result
+    c.in_ok-first.first c.ok_or.ensures.value c.in_ok-first.was c.first_chunk.ensures.cases)
+    (chunk_of (λ y. IsFirstChunk c.args.second.now y.now all_cells) _ c.first_chunk-2.result c.ok_or-2.result
+    c.in_ok-second.second c.ok_or-2.ensures.value c.in_ok-second.was c.first_chunk-2.ensures.cases)
+    (chunk_of (λ y. IsFirstChunk c.args.pairs.now y.now all_cells) _ c.first_chunk_mut.result c.ok_or-3.result
+    c.in_ok-pairs.pairs c.ok_or-3.ensures.value c.in_ok-pairs.was c.first_chunk_mut.ensures.cases)
+    c.frame.ensures

@@ -8,5 +8,5 @@ use Rattle.cutting.proofs.again.lane.Given as goal
 
 abbrev pub invariant-loop-b : goal.invariant-loop-b
 invariant-loop-b l =
-    (l.x ≤ l.b) × (l.b ≤ l.j) × (length l.col ≡ all_cells) × (length l.g ≡ row) ×
-    Laning l.veil l.val l.initial.col l.col l.g l.x l.j l.b
+    (l.x ≤ l.b) × (length l.col ≡ all_cells) × (length l.g ≡ row) ×
+    Laning l.readings.veil l.val l.initial.col l.col l.g l.x l.j l.b

@@ -8,6 +8,5 @@ use Rattle.cutting.proofs.tracing.start.Goals as goal
 
 pub returns : goal.returns
 returns c =
-    let pre = c.requires in
-    started pre.1 pre.2
-    (c.fill.ensures.after (λ y e. search rules) ∙ ap (λ (k : ℕ). replicate k 0) pre.0) c.put.ensures
+    started c.requires.0 c.requires.1
+    (c.fill.ensures.after (λ y e. search rules) ∙ ap (λ (k : ℕ). replicate k 0) c.told-pairs) c.put.ensures
