@@ -1,30 +1,16 @@
--- Along the corners of a piece, from one to the next: S is the piece, i a place in it, y the corner there, x the one
--- before it.
-use mathlib.Core.Path.{◌≡◌, refl, sym, ap, ◌∙◌}
-use mathlib.Core.Bool.{Bool, true, false, ◌&&◌}
-use mathlib.Core.Logic.{inl, inr}
-use mathlib.Core.List.{List, [], ◌∷◌}
-use Prim.Native.Nat.{ℕ, zero, suc, ◌+◌, ◌-◌, ◌<◌, ◌≤◌}
-use native.Mathlib.Omega.{arith}
-use lib.ListN.{length, get_or, set, drop, drop_of_length-le, length-set}
-use lib.Seq.{drop-cons}
-use Rattle.limits.specs.Limits.{row, place}
-use Rattle.rules.specs.Lists.{In}
+-- Along the corners of a piece, from one to the next.
+use Rattle.std.specs.Prelude.{◌≡◌, Bool, true, false, ◌&&◌, ◌||◌, eqb, List, [], ◌∷◌, ℕ, zero, suc, ◌-◌, ◌≤◌, ◌<◌, length, get_or, set, take, drop}
+use Rattle.std.proofs.Common.{refl, sym, ap, ◌∙◌, add-one, arith}
+use Rattle.std.specs.Bool.{MatchBool}
+use Rattle.std.specs.Fn.{Called, ComputesOnPairs}
+use Rattle.std.specs.List.{AllWithin, HoldsAt, IsAllAdjacentAnswer, list_any}
+use Rattle.std.proofs.lemmas.Fn.{always_returns_same}
+use denote.Param.Members.{Mut}
+use denote.Ref.{Bor}
+use Rattle.limits.specs.Limits.{place}
 use Rattle.rules.specs.Cutting.{last, closing}
 use Rattle.rules.specs.Lays.{all, some}
-use Rattle.checker.specs.Parts.{Corners, along, each_step, step_on, stepped}
-
-pub some_corner : {S : List ℕ} → Corners S → 0 < length S
-some_corner c = omega (arith, c.three)
-
--- ---- a corner is a member
-corner_in : (S : List ℕ) (i : ℕ) → i < length S → In (get_or S i 0) S
-corner_in [] i h = absurd (omega arith)
-corner_in (x ∷ S) zero h = inl refl
-corner_in (x ∷ S) (suc i) h = inr (corner_in S i (omega arith))
-
-pub corner_small : {S : List ℕ} {i y : ℕ} → Corners S → y ≡ get_or S i 0 → i < length S → y < row
-corner_small {S} {i} c w h = omega (arith, c.small (get_or S i 0) (corner_in S i h))
+use Rattle.checker.specs.Parts.{along, each_step, stepped}
 
 -- ---- the closing line goes from the first to the last
 last_is : (a : ℕ) (s : List ℕ) → last a s ≡ get_or (a ∷ s) (length s) 0
@@ -37,76 +23,81 @@ closing_is (a ∷ s) h =
     let e : suc (length s) - 1 ≡ length s = omega arith in
     ap (place a) (last_is a s ∙ ap (λ (k : ℕ). get_or (a ∷ s) k 0) (sym e))
 
--- ---- what is left of the list, one corner on
-pub next : (S : List ℕ) {i y : ℕ} → y ≡ get_or S i 0 → i < length S → drop i S ≡ y ∷ drop (i + 1) S
-next S {i} {y} w h =
-    let e : i + 1 ≡ suc i = omega arith in
-    drop-cons S i 0 h ∙ ap (λ (q : ℕ). get_or S i 0 ∷ drop q S) (sym e) ∙ ap (λ x. x ∷ drop (i + 1) S) (sym w)
+-- ---- a test of each corner and the next
+module _ (p : ℕ → ℕ → Bool) where
+  all_along : (a : ℕ) (s : List ℕ) →
+      ((k d : ℕ) → suc k < length (a ∷ s) → true ≡ p (get_or (a ∷ s) k d) (get_or (a ∷ s) (suc k) d)) →
+      true ≡ along p a s
+  all_along a [] f = refl
+  all_along a (b ∷ s) f =
+      all_along b s (λ k d lt. f (suc k) d (omega arith)) ∙ ap (λ x. x && along p b s) (f 0 0 (omega arith))
 
-pub from_first : (S : List ℕ) {x : ℕ} → x ≡ get_or S 0 0 → 0 < length S → S ≡ x ∷ drop 1 S
-from_first S w h = next S {i = 0} w h
+  some_along : (a : ℕ) (s : List ℕ) (k : ℕ) → suc k < length (a ∷ s) →
+      false ≡ p (get_or (a ∷ s) k 0) (get_or (a ∷ s) (suc k) 0) →
+      false ≡ along p a s
+  some_along a [] k lt f = absurd (omega arith)
+  some_along a (b ∷ s) zero lt f = ap (λ x. x && along p b s) f
+  some_along a (b ∷ s) (suc k) lt f = go (p a b) (some_along b s k (omega arith) f)
+    where
+      go : (x : Bool) → false ≡ along p b s → false ≡ (x && along p b s)
+      go true e = e
+      go false e = refl
 
--- ---- a test of each step: all is decided by the corners from i on, after x
-pub record Along (p : ℕ → ℕ → Bool) (S : List ℕ) (x i : ℕ) : Type 0 where
-  pub rest : each_step p S ≡ along p x (drop i S)
+  pub each_step_is : (S : List ℕ) (r : Bool) → IsAllAdjacentAnswer (λ x y b. b ≡ p x y) S r → r ≡ each_step p S
+  each_step_is [] true h = refl
+  each_step_is [] false h = absurd (omega (arith, h.1))
+  each_step_is (a ∷ s) true h = all_along a s (λ k d lt. rw add-one at (h k d (omega arith)))
+  each_step_is (a ∷ s) false h =
+      some_along a s h.0 (omega (arith, h.1)) (rw add-one at (h.2 0))
 
-module _ {p : ℕ → ℕ → Bool} {S : List ℕ} where
-  pub along_none : {x : ℕ} → x ≡ get_or S 0 0 → 0 < length S → Along p S x 1
-  along_none w h = record { rest = ap (each_step p) (from_first S w h) }
+  -- as `is_sorted_by` makes it
+  pub sorted_by : {F : Type 0} {g : Mut F (Bor ℕ × (Bor ℕ × Unit {0})) Bool} {f : F} (S : List ℕ) (r : Bool) →
+      ((e : ℕ → ℕ → Bool) → ComputesOnPairs g e f → IsAllAdjacentAnswer (λ x y b. b ≡ e x y) S r) →
+      ((a : Bor ℕ × (Bor ℕ × Unit {0})) (q : Bool) (f' : F) → Called g f a q f' →
+      (q ≡ p a.0.now a.1.0.now) × (f' ≡ f)) →
+      r ≡ each_step p S
+  sorted_by S r cases k = each_step_is S r (cases p (always_returns_same _ _ _ k))
 
-  module _ {i x y : ℕ} (a : Along p S x i) (w : y ≡ get_or S i 0) (h : i < length S) where
-    along_next : each_step p S ≡ (p x y && along p y (drop (i + 1) S))
-    along_next = a.rest ∙ ap (along p x) (next S w h)
+-- ---- a test of each corner
+module _ (p : ℕ → Bool) where
+  all_each : (S : List ℕ) → ((k d : ℕ) → k < length S → true ≡ p (get_or S k d)) → true ≡ all p S
+  all_each [] f = refl
+  all_each (a ∷ s) f = all_each s (λ k d lt. f (suc k) d (omega arith)) ∙ ap (λ x. x && all p s) (f 0 0 (omega arith))
 
-    pub along_more : p x y ≡ true → Along p S y (i + 1)
-    along_more t = record { rest = along_next ∙ ap (λ b. b && along p y (drop (i + 1) S)) t }
+  some_not : (S : List ℕ) (k : ℕ) → k < length S → false ≡ p (get_or S k 0) → false ≡ all p S
+  some_not [] k lt f = absurd (omega arith)
+  some_not (a ∷ s) zero lt f = ap (λ x. x && all p s) f
+  some_not (a ∷ s) (suc k) lt f = go (p a) (some_not s k (omega arith) f)
+    where
+      go : (x : Bool) → false ≡ all p s → false ≡ (x && all p s)
+      go true e = e
+      go false e = refl
 
-    pub along_fails : p x y ≡ false → false ≡ each_step p S
-    along_fails t = sym (along_next ∙ ap (λ b. b && along p y (drop (i + 1) S)) t)
+  pub all_is : (S : List ℕ) (r : Bool) →
+      MatchBool r (AllWithin (λ x. true ≡ p x) S 0 (length S))
+      ((k : ℕ) × (k < length S) × HoldsAt (λ x. false ≡ p x) S k) →
+      r ≡ all p S
+  all_is S true h = all_each S (λ k d lt. h k d (omega arith) lt)
+  all_is S false h = some_not S h.0 h.1 (h.2 0)
 
-  pub along_end : {i x : ℕ} → Along p S x i → length S ≤ i → true ≡ each_step p S
-  along_end {i} {x} a h = sym (a.rest ∙ ap (along p x) (drop_of_length-le S h))
+-- ---- a corner that is looked for
+pub some_is : (c : ℕ) (S : List ℕ) → list_any (λ y. eqb y c) S ≡ some (λ x. eqb x c) S
+some_is c [] = refl
+some_is c (a ∷ s) = go (eqb a c) (some_is c s)
+  where
+    go : (b : Bool) → list_any (λ y. eqb y c) s ≡ some (λ x. eqb x c) s →
+        (b || list_any (λ y. eqb y c) s) ≡ elim b [ true ↦ true | false ↦ some (λ x. eqb x c) s ]
+    go true e = refl
+    go false e = e
 
--- ---- steps that are marked: those from i on, after x, are still to be
-pub record Marking (S o t : List ℕ) (x i : ℕ) : Type 0 where
-  pub rest : stepped S o ≡ step_on x (drop i S) t
-  pub size : length t ≡ length o
+-- ---- steps that are marked: of the corners that are left, those that begin with the next are still to be
+pub marking_more : (S w t : List ℕ) → 2 ≤ length S → w ≡ take 2 S →
+    stepped S t ≡ stepped (drop 1 S) (set t (place (get_or w 0 0) (get_or w 1 0)) 1)
+marking_more [] w t le q = absurd (omega arith)
+marking_more (a ∷ []) w t le q = absurd (omega arith)
+marking_more (a ∷ b ∷ s) w t le q = rw q refl
 
-module _ {S o : List ℕ} where
-  pub marking_none : {x : ℕ} → x ≡ get_or S 0 0 → 0 < length S → Marking S o o x 1
-  marking_none w h = record { rest = ap (λ (s : List ℕ). stepped s o) (from_first S w h); size = refl }
-
-  pub marking_more : {t : List ℕ} {i x y k : ℕ} → Marking S o t x i → y ≡ get_or S i 0 → i < length S → k ≡ place x y →
-      Marking S o (set t k 1) y (i + 1)
-  marking_more {t} {i} {x} {y} {k} m w h q = record {
-    rest = m.rest ∙ ap (λ (s : List ℕ). step_on x s t) (next S w h)
-        ∙ ap (λ (j : ℕ). step_on y (drop (i + 1) S) (set t j 1)) (sym q);
-    size = length-set t k 1 ∙ m.size;
-  }
-
-  pub marking_end : {t : List ℕ} {i x : ℕ} → Marking S o t x i → length S ≤ i → t ≡ stepped S o
-  marking_end {t} {i} {x} m h = sym (m.rest ∙ ap (λ (s : List ℕ). step_on x s t) (drop_of_length-le S h))
-
--- ---- a test of all corners, or of some corner
-module _ (f : ℕ → Bool) (S : List ℕ) where
-  module _ {i y : ℕ} (w : y ≡ get_or S i 0) (h : i < length S) where
-    pub all_more : all f S ≡ all f (drop i S) → f y ≡ true → all f S ≡ all f (drop (i + 1) S)
-    all_more e t = e ∙ ap (all f) (next S w h) ∙ ap (λ b. b && all f (drop (i + 1) S)) t
-
-    pub all_fails : all f S ≡ all f (drop i S) → f y ≡ false → false ≡ all f S
-    all_fails e t = sym (e ∙ ap (all f) (next S w h) ∙ ap (λ b. b && all f (drop (i + 1) S)) t)
-
-    some_next : some f S ≡ some f (drop i S) → some f S ≡ some f (y ∷ drop (i + 1) S)
-    some_next e = e ∙ ap (some f) (next S w h)
-
-    pub some_more : some f S ≡ some f (drop i S) → f y ≡ false → some f S ≡ some f (drop (i + 1) S)
-    some_more e t = some_next e ∙ ap (λ b. elim b [ true ↦ true | false ↦ some f (drop (i + 1) S) ]) t
-
-    pub some_found : some f S ≡ some f (drop i S) → f y ≡ true → true ≡ some f S
-    some_found e t = sym (some_next e ∙ ap (λ b. elim b [ true ↦ true | false ↦ some f (drop (i + 1) S) ]) t)
-
-  pub all_end : {i : ℕ} → length S ≤ i → all f S ≡ all f (drop i S) → true ≡ all f S
-  all_end h e = sym (e ∙ ap (all f) (drop_of_length-le S h))
-
-  pub some_end : {i : ℕ} → length S ≤ i → some f S ≡ some f (drop i S) → false ≡ some f S
-  some_end h e = sym (e ∙ ap (some f) (drop_of_length-le S h))
+pub marking_end : (S t : List ℕ) → length S < 2 → stepped S t ≡ t
+marking_end [] t lt = refl
+marking_end (a ∷ []) t lt = refl
+marking_end (a ∷ b ∷ s) t lt = absurd (omega arith)

@@ -1,15 +1,14 @@
 -- What the two tables that `nested.rt` fills tell of number 22: the pieces of a list are those of one set of uncrossed
 -- pairs exactly when they are nested, and that is read off the tables.
 use mathlib.Core.Path.{◌≡◌, refl}
-use mathlib.Core.Bool.{Bool, true, false, not, cond}
+use mathlib.Core.Bool.{Bool, true, false, cond}
 use mathlib.Core.Logic.{inl, inr, ⊎_elim, ◌↔◌}
 use mathlib.Core.List.{List, [], ◌∷◌, map}
 use Prim.Native.Nat.{ℕ, suc, ◌-◌, ◌<◌, ◌≤◌}
-use native.Mathlib.Nat.{zero-add}
 use native.Mathlib.Omega.{arith}
-use lib.Dec.{eqb, ltb}
-use lib.ListN.{length, get_or, set}
-use Rattle.limits.specs.Limits.{fewest_corners, row, all_cells}
+use lib.Dec.{ltb}
+use lib.ListN.{set}
+use Rattle.limits.specs.Limits.{fewest_corners, row, place}
 use Rattle.outline.specs.Tells.{Tells, surely, if_yes, if_no, as_well, same_as, and_tells, lower_tells}
 use Rattle.rules.specs.Lists.{In, Distinct}
 use Rattle.rules.specs.Cells.{filled}
@@ -19,7 +18,7 @@ use Rattle.checker.specs.Nested.{Steps, Stepped, Closed, Shape, Nested, ends, ne
 use Rattle.checker.specs.Parts.{Marks, closes, fits, all_fit}
 use Rattle.checker.proofs.Neighbours.{step_inside}
 use Rattle.checker.proofs.Tests.{steps_tell}
-use Rattle.checker.proofs.Tables.{Lines, Holds, Also, zeros, holds_more, same_line, cell_yes, cell_no}
+use Rattle.checker.proofs.Tables.{Lines, Holds, Also, zeros, holds_more, same_line}
 use Rattle.checker.proofs.Tables.{closed_tells, tables_alone, tables_hold}
 
 -- ---- what the tests tell, with P the lines in c, and Q those in t
@@ -78,32 +77,29 @@ module _ {n : ℕ} (l : List Entry) (c t : List ℕ) {r : Bool} (least : fewest_
   held : r ≡ true → Holds c (Closed (corner_lists l)) × Holds t (Stepped (corner_lists l))
   held = tables_hold most (corner_lists l) c t (shapes l each) m
 
-  pub marks_sizes : r ≡ true → (length c ≡ all_cells) × (length t ≡ all_cells)
-  marks_sizes e = ((held e).0.size, (held e).1.size)
-
   -- two pieces close on one line
   pub marked_twice : r ≡ false → ¬ IsCutting n l
   marked_twice e k = if_no alone e ((nested_is l least each).1 k).alone
 
   -- no piece closes on the line of the whole
-  whole : r ≡ true → Tells (not (eqb (get_or c (n - 1) 0) 0)) (Closed (corner_lists l) 0 (n - 1))
-  whole e = rw (zero-add (n - 1)) at ((held e).0.tells 0 (n - 1) (omega arith) (omega arith))
+  whole : r ≡ true → Tells (filled c 0 (n - 1)) (Closed (corner_lists l) 0 (n - 1))
+  whole e = (held e).0.tells 0 (n - 1) (omega arith) (omega arith)
 
-  pub marked_whole : r ≡ true → get_or c (n - 1) 0 ≡ 0 → ¬ IsCutting n l
-  marked_whole e z k = cell_no (whole e) z ((nested_is l least each).1 k).whole
+  pub marked_whole : r ≡ true → filled c 0 (n - 1) ≡ false → ¬ IsCutting n l
+  marked_whole e z k = if_no (whole e) z ((nested_is l least each).1 k).whole
 
   -- else the last test tells
-  also_whole : r ≡ true → Holds (set t (n - 1) 1) (Also (Stepped (corner_lists l)) 0 (n - 1))
-  also_whole e = rw (zero-add (n - 1)) at (holds_more {a = 0} {b = n - 1} (held e).1 (omega arith) (omega arith))
+  also_whole : r ≡ true → Holds (set t (place 0 (n - 1)) 1) (Also (Stepped (corner_lists l)) 0 (n - 1))
+  also_whole e = holds_more {a = 0} {b = n - 1} (held e).1 (omega arith) (omega arith)
 
-  pub marked_fits : r ≡ true → ¬ (get_or c (n - 1) 0 ≡ 0) →
-      Tells (all_fit c (set t (n - 1) 1) (corner_lists l)) (IsCutting n l)
+  pub marked_fits : r ≡ true → filled c 0 (n - 1) ≡ true →
+      Tells (all_fit c (set t (place 0 (n - 1)) 1) (corner_lists l)) (IsCutting n l)
   marked_fits e k =
       same_as (nested_is l least each)
       (as_well (all_fit_tells most (held e).0 (also_whole e) (corner_lists l) (shapes l each))
       (λ f. record {
         alone = if_yes alone e;
-        whole = cell_yes (whole e) k;
+        whole = if_yes (whole e) k;
         under = λ S i. (f S i).0;
         over = λ S i. ⊎_elim inr (λ q. inl (same_line.0 q)) (f S i).1;
       })

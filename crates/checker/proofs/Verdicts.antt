@@ -3,11 +3,11 @@ use mathlib.Core.Path.{◌≡◌, refl, sym, ◌∙◌, subst}
 use mathlib.Core.Bool.{Bool, true, false}
 use mathlib.Core.Logic.{inl, inr}
 use mathlib.Core.List.{List}
-use Prim.Native.Nat.{ℕ, ◌≤◌}
+use Prim.Native.Nat.{ℕ}
 use native.Mathlib.Omega.{arith}
 use lib.IntN.{ℤ}
 use lib.ListN.{length}
-use Rattle.limits.specs.Limits.{most_corners, all_cells}
+use Rattle.limits.specs.Limits.{all_cells}
 use Rattle.outline.specs.Drawing.{corners}
 use Rattle.outline.specs.Tells.{if_yes, if_no}
 use Rattle.drawing.specs.Sight.{Seen}
@@ -22,16 +22,12 @@ use Rattle.checker.specs.declared.flat.Verdict.{Verdict}
 use Rattle.checker.proofs.Sights.{Agree, cells_agree, bytes_same}
 
 -- ---- the bytes, by cells
--- the pieces of a list have corners that have a row
-pub readable : {n : ℕ} {bytes : List ℕ} → n ≤ most_corners → IsList n bytes → Readable bytes
-readable few l = record {
+-- the pieces of a list have three corners, which rise
+pub readable : {n : ℕ} {bytes : List ℕ} → IsList n bytes → Readable bytes
+readable l = record {
   entries = l.0;
   are = l.1.are;
-  each = λ e i.
-      let a = l.1.each e i in (
-        record { three = a.enough; rising = a.rising; small = λ x j. omega (arith, a.below x j) },
-        omega (arith, a.below e.centre a.own),
-      );
+  each = λ e i. let a = l.1.each e i in record { three = a.enough; rising = a.rising };
 }
 
 module _ {n : ℕ} {bytes : List ℕ} (first second : List ℕ) {r : Bool} (l : IsList n bytes)
@@ -72,12 +68,6 @@ module _ {first second : List ℤ} {number : ℕ} (checks : Checks first second 
 
       second_seen : Seen second p b
       second_seen = (s.told z).seen (omega arith)
-
-      pub first_cells : all_cells ≤ length a
-      first_cells = omega (arith, first_seen.size)
-
-      pub second_cells : all_cells ≤ length b
-      second_cells = omega (arith, second_seen.size)
 
       pub by_cells : {bytes : List ℕ} {v : Verdict} →
           OfBytes (in_cells a) (in_cells b) (corners first) bytes v → ChecksList first second bytes v

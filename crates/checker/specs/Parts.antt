@@ -1,29 +1,43 @@
 -- What the private functions promise and ask. Tests of the corners of a piece are Booleans that go along the list;
 -- what they tell is for the proofs.
-use Rattle.std.specs.Prelude.{◌≡◌, Bool, true, false, cond, not, ◌&&◌, ◌⊎◌, List, [], ◌∷◌, ℕ, suc, ◌+◌, ◌%◌, ◌≤◌, ◌<◌, eqb, ltb, length, get_or, set, take, drop}
-use Rattle.limits.specs.Limits.{row, all_cells, place}
+use Rattle.std.specs.Prelude.{◌≡◌, Bool, true, false, cond, not, ◌&&◌, ◌⊎◌, List, [], ◌∷◌, ◌++◌, ℕ, suc, ◌%◌, ◌≤◌, eqb, ltb, length, get_or, set, Option, MatchOption}
+use Rattle.limits.specs.Limits.{place}
 use Rattle.outline.specs.Tells.{Tells}
 use Rattle.rules.specs.Lists.{In, Rising}
 use Rattle.rules.specs.Cutting.{closing}
 use Rattle.rules.specs.Cells.{cell, filled, StrictlySees, CentreSees}
-use Rattle.checker.specs.Checks.{Entry, laid, Allowed, Listed, corner_lists, IsCutting}
+use Rattle.checker.specs.Checks.{Entry, laid, Listed, corner_lists, IsCutting}
 use Rattle.checker.specs.Checks.{Sight, FirstFailed, of_pieces}
 use Rattle.checker.specs.declared.flat.Verdict.{Verdict}
+use Rattle.checker.specs.declared.pieces.Piece.{Piece}
 
 -- ---- the corners of a piece, where they are handed on alone
 pub record Corners (S : List ℕ) : Type 0 where
   pub three : 3 ≤ length S
   pub rising : Rising S
-  pub small : (x : ℕ) → In x S → x < row
 
 abbrev pub piece : ℕ → List ℕ → Entry
 piece centre corners = record { centre = centre; corners = corners }
 
--- bytes that are pieces, all of whose corners have a row
+-- bytes that are pieces with such corners
 pub record Readable (bytes : List ℕ) : Type 0 where
   pub entries : List Entry
   pub are : bytes ≡ laid entries
-  pub each : (e : Entry) → In e entries → Corners e.corners × (e.centre < row)
+  pub each : (e : Entry) → In e entries → Corners e.corners
+
+-- a piece at the head of bytes, and the bytes after it; or none
+abbrev pub spelt : Entry → List ℕ → List ℕ
+spelt e after = length e.corners ∷ e.centre ∷ (e.corners ++ after)
+
+abbrev pub NoPiece : List ℕ → Type 0
+NoPiece bytes = (e : Entry) (after : List ℕ) → ¬ (bytes ≡ spelt e after)
+
+-- what `Pieces` gives of the bytes that are left, and leaves
+abbrev pub as_entry : Piece → Entry
+as_entry p = piece p.centre p.corners.now
+
+abbrev pub Reads : List ℕ → Option Piece → List ℕ → Type 0
+Reads left r after = MatchOption r (NoPiece left × (after ≡ left)) (λ p. left ≡ spelt (as_entry p) after)
 
 -- ---- tests along a list: of each step, from a corner to the next
 abbrev pub along : (ℕ → ℕ → Bool) → ℕ → List ℕ → Bool
@@ -34,21 +48,11 @@ abbrev pub each_step : (ℕ → ℕ → Bool) → List ℕ → Bool
 each_step p [] = true
 each_step p (a ∷ s) = along p a s
 
--- ---- 21: the corners rise, and those after the first are below n; a piece stands at `at`
+-- ---- 21: the corners rise, and those after the first are below n
 abbrev pub rises : ℕ → ℕ → ℕ → Bool
 rises n x y = ltb x y && ltb y n
 
-abbrev pub piece_at : List ℕ → ℕ → Entry
-piece_at bytes at = piece (get_or bytes (at + 1) 0) (take (get_or bytes at 0) (drop (at + 2) bytes))
-
-pub record PieceAt (n : ℕ) (bytes : List ℕ) (at : ℕ) : Type 0 where
-  pub fits : at + 2 + get_or bytes at 0 ≤ length bytes
-  pub allowed : Allowed n (piece_at bytes at)
-
 -- ---- 22: the lines of the pieces, marked in two tables of cells
-abbrev pub Cells : List ℕ → Type 0
-Cells t = all_cells ≤ length t
-
 -- the cell of a piece's closing line
 abbrev pub closed : List ℕ → List ℕ → ℕ
 closed t S = get_or t (closing place S) 0
@@ -68,7 +72,6 @@ pub record MarksPiece (S c t c' t' : List ℕ) (r : Bool) : Type 0 where
   pub free : r ≡ true → closed c S ≡ 0
   pub closes : r ≡ true → c' ≡ set c (closing place S) 1
   pub steps : r ≡ true → t' ≡ stepped S t
-  pub sizes : (length c' ≡ length c) × (length t' ≡ length t)
 
 abbrev pub Marks : List (List ℕ) → List ℕ → List ℕ → List ℕ → List ℕ → Bool → Type 0
 Marks [] c t c' t' r = (r ≡ true) × (c' ≡ c) × (t' ≡ t)

@@ -34,17 +34,24 @@ split_same (a ∷ s) (b ∷ t) x y l e =
     let h : a ≡ b = cc e in
     (cc (h, p.0), p.1)
 
+pub first_one : (e f : Entry) (x y : List ℕ) →
+    length e.corners ∷ e.centre ∷ (e.corners ++ x) ≡ length f.corners ∷ f.centre ∷ (f.corners ++ y) →
+    (e ≡ f) × (x ≡ y)
+first_one e f x y q =
+    let k : length e.corners ≡ length f.corners = cc q in
+    let c : e.centre ≡ f.centre = cc q in
+    let rest : e.corners ++ x ≡ f.corners ++ y = cc q in
+    let p = split_same e.corners f.corners x y k rest in
+    (entry_is e f c p.0, p.1)
+
 pub laid_one : (l m : List Entry) → laid l ≡ laid m → l ≡ m
 laid_one [] [] e = refl
 laid_one [] (f ∷ m) e = absurd (omega (arith, ap length e))
 laid_one (e ∷ l) [] q = absurd (omega (arith, ap length q))
 laid_one (e ∷ l) (f ∷ m) q =
-    let k : length e.corners ≡ length f.corners = cc q in
-    let c : e.centre ≡ f.centre = cc q in
-    let rest : e.corners ++ laid l ≡ f.corners ++ laid m = cc q in
-    let p = split_same e.corners f.corners (laid l) (laid m) k rest in
-    let h = entry_is e f c p.0 in
+    let p = first_one e f (laid l) (laid m) q in
     let t = laid_one l m p.1 in
+    let h = p.0 in
     cc (h, t)
 
 -- ---- one verdict

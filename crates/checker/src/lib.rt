@@ -3,10 +3,10 @@
 // is wrong is told.
 #![tactic(auto)]
 
-ghost use Rattle.std.specs.Prelude.{◌≡◌, ◌≤◌, length};
-ghost use Rattle.limits.specs.Limits.{fewest_corners, most_corners, all_cells};
+ghost use Rattle.std.specs.Prelude.{◌≡◌, ◌≤◌};
+ghost use Rattle.limits.specs.Limits.{fewest_corners, most_corners};
 ghost use Rattle.checker.specs.Checks.{verdict, OfBytes, ChecksList};
-ghost use Rattle.checker.specs.Parts.{Cells, in_cells};
+ghost use Rattle.checker.specs.Parts.{in_cells};
 ghost use Rattle.checker.specs.declared.Fault.TheVariants.{Pair};
 
 mod faults;
@@ -14,6 +14,7 @@ pub mod flat;
 mod lines;
 mod listed;
 mod nested;
+mod pieces;
 
 use faults::first_fault;
 use limits::ALL_CELLS;
@@ -42,7 +43,7 @@ impl From<Refusal> for Fault {
 
 // By the cells of two sound drawings.
 fn of_bytes(n: usize, first: &[u8], second: &[u8], list: &[u8]) -> Result<(), Fault>
-    requires { (fewest_corners ≤ n) × (n ≤ most_corners) × Cells first.now × Cells second.now }
+    requires { (fewest_corners ≤ n) × (n ≤ most_corners) }
     ensures { OfBytes (in_cells first.now) (in_cells second.now) n list.now (verdict result) }
 {
     if !is_list(n, list) {

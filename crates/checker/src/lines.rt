@@ -1,29 +1,57 @@
-// Corners as numbers, and the cells of lines in a flat table of pairs.
-ghost use Rattle.std.specs.Prelude.{◌≡◌, ◌<◌};
-ghost use Rattle.limits.specs.Limits.{row, all_cells, place};
-ghost use Rattle.rules.specs.Cutting.{closing};
-ghost use Rattle.checker.specs.Parts.{Corners};
+// Lines between corners, as cells of a flat table of pairs, and sets of lines.
+ghost use Rattle.std.specs.Prelude.{◌≡◌, List, ℕ, set, replicate};
+ghost use Rattle.limits.specs.Limits.{all_cells, place};
+ghost use Rattle.rules.specs.Cells.{cell, filled};
 
-use limits::ROW;
+use limits::{ALL_CELLS, ROW};
+use std::marker::Model;
 
-pub fn wide(b: u8) -> usize
-    ensures { result ≡ b }
+fn place(x: u8, y: u8) -> usize
+    ensures { result ≡ place x y }
 {
-    b as usize
+    usize::from(x) * ROW + usize::from(y)
 }
 
-pub fn line(x: usize, y: usize) -> usize
-    requires { (x < row) × (y < row) }
-    ensures { (result ≡ place x y) × (result < all_cells) }
+// The cell of a line; 0 where the table has none, as the definition reads it, so that nothing is asked of x and y.
+pub fn cell(table: &[u8], x: u8, y: u8) -> u8
+    ensures { result ≡ cell table.now x y }
 {
-    x * ROW + y
+    table.get(place(x, y)).copied().unwrap_or(0)
 }
 
-// The closing line of a piece, from its first corner to its last.
-pub fn closing(corners: &[u8]) -> usize
-    requires { Corners corners.now }
-    ensures { (result ≡ closing place corners.now) × (result < all_cells) }
-{
-    let last = corners.len() - 1;
-    line(wide(corners[0]), wide(corners[last]))
+// A set of lines: those whose cell is not 0.
+#[derive(Drop)]
+pub struct Lines {
+    cells: [u8; ALL_CELLS],
+}
+
+impl Model for Lines {
+    ghost Value = { List ℕ };
+
+    ghost view = { λ s. s.cells };
+}
+
+impl Lines {
+    pub fn none() -> Self
+        ensures { result ≡ replicate all_cells 0 }
+    {
+        Lines {
+            cells: [0; ALL_CELLS],
+        }
+    }
+
+    pub fn has(&self, x: u8, y: u8) -> bool
+        ensures { result ≡ filled self.now x y }
+    {
+        cell(&self.cells, x, y) != 0
+    }
+
+    pub fn add(&mut self, x: u8, y: u8)
+        ensures { self.new ≡ set self.old (place x y) 1 }
+    {
+        let at = place(x, y);
+        if at < ALL_CELLS {
+            self.cells[at] = 1;
+        }
+    }
 }

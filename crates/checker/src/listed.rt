@@ -1,84 +1,37 @@
 // Whether bytes are a list of pieces: number 21.
-ghost use Rattle.std.specs.Prelude.{◌≡◌, ◌<◌, eqb, length};
+ghost use Rattle.std.specs.Prelude.{◌≡◌};
 ghost use Rattle.outline.specs.Tells.{Tells};
-ghost use Rattle.rules.specs.Lays.{some};
-ghost use Rattle.checker.specs.Checks.{IsList};
-ghost use Rattle.checker.specs.Parts.{each_step, rises, PieceAt};
+ghost use Rattle.checker.specs.Checks.{Allowed, IsList};
+ghost use Rattle.checker.specs.Parts.{as_entry, rises};
 
-use crate::lines::wide;
+use crate::pieces::{Piece, Pieces};
 use limits::FEWEST_CORNERS;
 
-fn rises(n: usize, x: usize, y: usize) -> bool
+fn rises(n: usize, x: u8, y: u8) -> bool
     ensures { result ≡ rises n x y }
 {
-    if y <= x {
-        return false;
-    }
-    y < n
+    x < y && usize::from(y) < n
 }
 
-// Whether the corners rise, and those after the first are below n.
-fn all_rise(n: usize, corners: &[u8]) -> bool
-    requires { 0 < length corners.now }
-    ensures { result ≡ each_step (rises n) corners.now }
-{
-    let mut x = wide(corners[0]);
-    for i in 1..corners.len() {
-        let y = wide(corners[i]);
-        if !rises(n, x, y) {
-            return false;
-        }
-        x = y;
+impl Piece<'_> {
+    // Whether there are 3 to n corners, which rise, those after the first below n, and the centre is one of them.
+    fn is_allowed(&self, n: usize) -> bool
+        ensures { Tells result (Allowed n (as_entry self.now)) }
+    {
+        (FEWEST_CORNERS..=n).contains(&self.corners.len())
+            && self.corners.is_sorted_by(|x, y| rises(n, *x, *y))
+            && self.corners.contains(&self.centre)
     }
-    true
-}
-
-fn has(corners: &[u8], centre: u8) -> bool
-    ensures { result ≡ some (λ x. eqb x centre) corners.now }
-{
-    for i in 0..corners.len() {
-        if corners[i] == centre {
-            return true;
-        }
-    }
-    false
-}
-
-// Whether a piece stands at `at`: k, the centre, the k corners.
-fn is_piece(n: usize, list: &[u8], at: usize) -> bool
-    requires { at < length list.now }
-    ensures { Tells result (PieceAt n list.now at) }
-{
-    if list.len() - at < 2 {
-        return false;
-    }
-    let k = wide(list[at]);
-    if k < FEWEST_CORNERS {
-        return false;
-    }
-    if k > n {
-        return false;
-    }
-    let from = at + 2;
-    if list.len() - from < k {
-        return false;
-    }
-    let to = from + k;
-    if !all_rise(n, &list[from..to]) {
-        return false;
-    }
-    has(&list[from..to], list[at + 1])
 }
 
 pub fn is_list(n: usize, list: &[u8]) -> bool
     ensures { Tells result (IsList n list.now) }
 {
-    let mut at = 0;
-    while at < list.len() {
-        if !is_piece(n, list, at) {
+    let mut pieces = Pieces { rest: list };
+    while let Some(piece) = pieces.next() {
+        if !piece.is_allowed(n) {
             return false;
         }
-        at = at + 2 + wide(list[at]);
     }
-    list.len() > 0
+    !list.is_empty() && pieces.rest.is_empty()
 }

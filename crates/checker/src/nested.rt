@@ -3,135 +3,89 @@
 //     0 . 2 . . 5    Each piece closes on a line of its own, from its first corner to its last; one of them on 0, n-1.
 //      \_/ \___/     Each step of a piece, from a corner to the next, that is no side is a closing line, and each
 //                    closing line but 0, n-1 is a step of some piece.
-ghost use Rattle.std.specs.Prelude.{◌≡◌, ◌<◌, ◌≤◌, replicate};
-ghost use Rattle.limits.specs.Limits.{fewest_corners, most_corners, row, all_cells};
+ghost use Rattle.std.specs.Prelude.{◌≡◌, ◌≤◌};
+ghost use Rattle.limits.specs.Limits.{fewest_corners, most_corners};
 ghost use Rattle.checker.specs.Checks.{IsList};
-ghost use Rattle.checker.specs.Parts.{Corners, Readable, Cells, each_step, closes, fits, stepped};
+ghost use Rattle.checker.specs.Parts.{Readable, closes, fits, stepped};
 ghost use Rattle.checker.specs.Parts.{MarksPiece, MarksAll, FitsAll, TellsCutting};
 
-use crate::lines::{closing, line, wide};
-use limits::ALL_CELLS;
-
-// The steps of a piece are marked, sides too: their cells are not asked for.
-fn mark_steps(corners: &[u8], steps: &mut [u8])
-    requires { Corners corners.now × Cells steps.old }
-    ensures { steps.new ≡ stepped corners.now steps.old }
-{
-    let mut x = wide(corners[0]);
-    for i in 1..corners.len() {
-        let y = wide(corners[i]);
-        let cell = line(x, y);
-        steps[cell] = 1;
-        x = y;
-    }
-}
-
-// The lines of a piece are marked. False where another piece closes on the same line.
-fn mark_piece(corners: &[u8], closings: &mut [u8], steps: &mut [u8]) -> bool
-    requires { Corners corners.now × Cells closings.old × Cells steps.old }
-    ensures { MarksPiece corners.now closings.old steps.old
-        closings.new steps.new result }
-{
-    let line = closing(corners);
-    if closings[line] != 0 {
-        return false;
-    }
-    closings[line] = 1;
-    mark_steps(corners, steps);
-    true
-}
-
-fn mark(list: &[u8], closings: &mut [u8], steps: &mut [u8]) -> bool
-    requires { Readable list.now × Cells closings.old × Cells steps.old }
-    ensures { MarksAll list.now closings.old steps.old
-        closings.new steps.new result }
-{
-    let mut at = 0;
-    while at < list.len() {
-        let from = at + 2;
-        let to = from + wide(list[at]);
-        if !mark_piece(&list[from..to], closings, steps) {
-            return false;
-        }
-        at = to;
-    }
-    true
-}
+use crate::lines::Lines;
+use crate::pieces::{Piece, Pieces};
 
 // Whether a step is a side, or a piece closes on it.
-fn closes(closings: &[u8], x: usize, y: usize) -> bool
-    requires { Cells closings.now × (x < row) × (y < row) }
+fn closes(closings: &Lines, x: u8, y: u8) -> bool
     ensures { result ≡ closes closings.now x y }
 {
-    if y <= x + 1 {
-        return true;
-    }
-    closings[line(x, y)] != 0
+    y.saturating_sub(x) < 2 || closings.has(x, y)
 }
 
-fn steps_close(closings: &[u8], corners: &[u8]) -> bool
-    requires { Cells closings.now × Corners corners.now }
-    ensures { result ≡ each_step (closes closings.now) corners.now }
-{
-    let mut x = wide(corners[0]);
-    for i in 1..corners.len() {
-        let y = wide(corners[i]);
-        if !closes(closings, x, y) {
+impl Piece<'_> {
+    // The steps are marked, sides too: they are not asked for.
+    fn mark_steps(&self, steps: &mut Lines)
+        ensures { steps.new ≡ stepped self.now.corners.now steps.old }
+    {
+        for step in self.corners.windows(2) {
+            steps.add(step[0], step[1]);
+        }
+    }
+
+    // The lines of the piece are marked. False where another piece closes on the same line.
+    fn mark(&self, closings: &mut Lines, steps: &mut Lines) -> bool
+        ensures { MarksPiece self.now.corners.now closings.old steps.old closings.new steps.new result }
+    {
+        let (first, last) = self.closing();
+        if closings.has(first, last) {
             return false;
         }
-        x = y;
+        closings.add(first, last);
+        self.mark_steps(steps);
+        true
+    }
+
+    // Whether all lines of the piece are where they should be.
+    fn fits(&self, closings: &Lines, steps: &Lines) -> bool
+        ensures { result ≡ fits closings.now steps.now self.now.corners.now }
+    {
+        let (first, last) = self.closing();
+        self.corners.is_sorted_by(|x, y| closes(closings, *x, *y)) && steps.has(first, last)
+    }
+}
+
+fn mark_all(list: &[u8], closings: &mut Lines, steps: &mut Lines) -> bool
+    requires { Readable list.now }
+    ensures { MarksAll list.now closings.old steps.old closings.new steps.new result }
+{
+    for piece in (Pieces { rest: list }) {
+        if !piece.mark(closings, steps) {
+            return false;
+        }
     }
     true
 }
 
-// Whether all lines of a piece are where they should be.
-fn fits(corners: &[u8], closings: &[u8], steps: &[u8]) -> bool
-    requires { Corners corners.now × Cells closings.now × Cells steps.now }
-    ensures { result ≡ fits closings.now steps.now corners.now }
-{
-    if !steps_close(closings, corners) {
-        return false;
-    }
-    steps[closing(corners)] != 0
-}
-
-fn all_fit(list: &[u8], closings: &[u8], steps: &[u8]) -> bool
-    requires { Readable list.now × Cells closings.now × Cells steps.now }
+fn all_fit(list: &[u8], closings: &Lines, steps: &Lines) -> bool
+    requires { Readable list.now }
     ensures { FitsAll list.now closings.now steps.now result }
 {
-    let mut at = 0;
-    while at < list.len() {
-        let from = at + 2;
-        let to = from + wide(list[at]);
-        if !fits(&list[from..to], closings, steps) {
+    for piece in (Pieces { rest: list }) {
+        if !piece.fits(closings, steps) {
             return false;
         }
-        at = to;
     }
     true
 }
 
-// The line from the first corner to the last is a step of no piece: it is marked as if it were.
-fn nested(n: usize, list: &[u8], closings: &mut [u8], steps: &mut [u8]) -> bool
-    requires fewest_corners_le_n { (fewest_corners ≤ n) × (n ≤ most_corners) × IsList n list.now }
-    requires closings_value { (closings.old ≡ replicate all_cells 0) × (steps.old ≡ replicate all_cells 0) }
-    ensures { TellsCutting n list.now result }
-{
-    if !mark(list, closings, steps) {
-        return false;
-    }
-    if closings[n - 1] == 0 {
-        return false;
-    }
-    steps[n - 1] = 1;
-    all_fit(list, closings, steps)
-}
-
+// The line from the first corner of all to the last is a step of no piece: it is marked as if it were.
 pub fn is_cutting(n: usize, list: &[u8]) -> bool
     requires { (fewest_corners ≤ n) × (n ≤ most_corners) × IsList n list.now }
     ensures { TellsCutting n list.now result }
 {
-    let mut closings = [0u8; ALL_CELLS];
-    let mut steps = [0u8; ALL_CELLS];
-    nested(n, list, &mut closings, &mut steps)
+    let mut closings = Lines::none();
+    let mut steps = Lines::none();
+    let last = (n - 1) as u8;
+    if !mark_all(list, &mut closings, &mut steps) || !closings.has(0, last) {
+        return false;
+    }
+    steps.add(0, last);
+    all_fit(list, &closings, &steps)
 }

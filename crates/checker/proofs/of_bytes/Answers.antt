@@ -19,9 +19,7 @@ returns-then-not-is_cutting c =
     no_cutting c.args.first.now c.args.second.now l c.is_cutting.ensures c.if-not-is_cutting.true
 
 pub first_fault-requires : goal.first_fault-requires
-first_fault-requires c =
-    let s = c.requires in
-    (s.2, s.3, readable s.1 (if_yes c.is_list.ensures c.if-not-is_list.false))
+first_fault-requires c = readable (if_yes c.is_list.ensures c.if-not-is_list.false)
 
 pub returns : goal.returns
 returns c =

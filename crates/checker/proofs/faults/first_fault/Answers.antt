@@ -1,68 +1,33 @@
--- `checker::faults::first_fault`: the pieces before `at` have no fault, and the next one is the `place`-th.
-use native.Mathlib.Omega.{arith}
+-- `checker::faults::first_fault`: the pieces before those that are left have no fault.
 use Rattle.std.proofs.lemmas.Result.{err_from_is_err_and}
-use Rattle.checker.proofs.Reading.{walk_none, walk_next, next_fits, next_corners}
-use Rattle.checker.proofs.Passes.{fault_more, fault_found, fault_none}
+use Rattle.checker.specs.Parts.{as_entry}
+use Rattle.checker.proofs.Reading.{walk_next}
+use Rattle.checker.proofs.Passes.{fault_found, fault_more, fault_none}
 use Rattle.checker.proofs.faults.first_fault.Goals as goal
 
-pub loop-at-init : goal.loop-at-init
-loop-at-init c = (walk_none _ c.requires.2 (λ l v h. h), omega arith)
-
-pub overflow_add-from : goal.overflow_add-from
-overflow_add-from c = let n = walk_next c.loop-at.invariant.0 c.loop-at-test.true in omega (arith, n.at_hand.fits)
-
-pub bounds-list-at : goal.bounds-list-at
-bounds-list-at c = omega (arith, c.loop-at-test.true)
-
-pub overflow_add-to : goal.overflow_add-to
-overflow_add-to c =
-    let n = walk_next c.loop-at.invariant.0 c.loop-at-test.true in
-    omega (arith, next_fits n c.wide.ensures)
-
-pub overflow_add-at : goal.overflow_add-at
-overflow_add-at c =
-    let n = walk_next c.loop-at.invariant.0 c.loop-at-test.true in
-    omega (arith, next_fits n c.wide.ensures)
-
-pub bounds-list-at-in-loop-at : goal.bounds-list-at-in-loop-at
-bounds-list-at-in-loop-at c =
-    let n = walk_next c.loop-at.invariant.0 c.loop-at-test.true in
-    omega (arith, next_fits n c.wide.ensures)
-
 pub fault-requires : goal.fault-requires
-fault-requires c =
-    let n = walk_next c.loop-at.invariant.0 c.loop-at-test.true in
-    let s = c.requires in
-    (s.0, s.1, omega (arith, c.wide-in-loop-at.ensures, n.at_hand.centre, n.small), next_corners n c.wide.ensures)
+fault-requires c = let s = c.in-Some.ensures.steps in (walk_next c.loop-place.invariant.2 s.0).corners
 
-pub slice_bounds-fault-end : goal.slice_bounds-fault-end
-slice_bounds-fault-end c =
-    let n = walk_next c.loop-at.invariant.0 c.loop-at-test.true in
-    omega (arith, next_fits n c.wide.ensures)
+pub loop-place-preserved : goal.loop-place-preserved
+loop-place-preserved c =
+    let p = c.in-Some.piece in
+    let s = c.in-Some.ensures.steps in (
+      c.in-Some.ensures.goes.keeps,
+      tt,
+      fault_more c.args.first.now c.args.second.now c.loop-place.invariant.2 (as_entry p) _ s.0 s.1
+          c.in_ok-fault.ensures s.2,
+    )
 
 pub returns-in_err-fault : goal.returns-in_err-fault
 returns-in_err-fault c =
-    let n = walk_next c.loop-at.invariant.0 c.loop-at-test.true in
-    let p = err_from_is_err_and c.from_residual.result c.from_residual.ensures.1 in
-    rw (p.1, p.2)
-    (fault_found c.args.first.now c.args.second.now
-    c.loop-at.invariant.0 n c.wide.ensures c.wide-in-loop-at.ensures _ c.in_err-fault.ensures)
-
-pub overflow_add-place : goal.overflow_add-place
-overflow_add-place c = omega (arith, c.loop-at.invariant.1, c.loop-at-test.true)
-
-pub loop-at-smaller : goal.loop-at-smaller
-loop-at-smaller c =
-    let n = walk_next c.loop-at.invariant.0 c.loop-at-test.true in
-    omega (arith, next_fits n c.wide.ensures)
-
-pub loop-at-preserved : goal.loop-at-preserved
-loop-at-preserved c =
-    let n = walk_next c.loop-at.invariant.0 c.loop-at-test.true in (
-      fault_more c.args.first.now c.args.second.now
-          c.loop-at.invariant.0 n c.wide.ensures c.wide-in-loop-at.ensures c.in_ok-fault.ensures,
-      omega (arith, c.loop-at.invariant.1),
-    )
+    let p = c.in-Some.piece in
+    let s = c.in-Some.ensures.steps in
+    let e = err_from_is_err_and c.from_residual.result c.from_residual.ensures.1 in
+    rw (e.1, e.2)
+    (fault_found c.args.first.now c.args.second.now c.loop-place.invariant.2 (as_entry p) _ s.0 s.1
+    _ c.in_err-fault.ensures)
 
 pub returns : goal.returns
-returns c = fault_none c.args.first.now c.args.second.now c.loop-at.invariant.0 c.loop-at-test.false
+returns c =
+    let s = c.in-None.ensures.steps in
+    fault_none c.args.first.now c.args.second.now c.loop-place.invariant.2 s.0.0

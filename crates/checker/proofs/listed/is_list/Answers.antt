@@ -1,44 +1,36 @@
--- `checker::listed::is_list`: the bytes from `at` on decide.
-use native.Mathlib.Omega.{arith}
+-- `checker::listed::is_list`: the bytes that are left decide.
+use Rattle.std.proofs.Common.{sym, ap, ◌∙◌, List, ℕ, length, eqb, eqb-true, eq-eqb, true≢false}
 use Rattle.outline.specs.Tells.{never, if_yes, if_no}
-use Rattle.checker.specs.Parts.{PieceAt}
-use Rattle.checker.proofs.Listing.{listing_none, listing_more, listing_fails, listing_end}
+use Rattle.checker.specs.Parts.{as_entry}
+use Rattle.checker.proofs.Listing.{listing_none, listing_more, listing_fails, listing_tells, no_listing}
 use Rattle.checker.proofs.listed.is_list.Goals as goal
 
-pub loop-at-init : goal.loop-at-init
-loop-at-init c = listing_none _ _
+pub loop-piece-init : goal.loop-piece-init
+loop-piece-init c = (tt, tt, listing_none _ _)
 
-pub is_piece-requires : goal.is_piece-requires
-is_piece-requires c = c.loop-at-test.true
+pub returns-then-not-is_allowed : goal.returns-then-not-is_allowed
+returns-then-not-is_allowed c =
+    let p = c.in-Some.piece in
+    never (listing_fails c.loop-piece.invariant.2 (as_entry p) _ c.in-Some.ensures.steps
+    (if_no c.is_allowed.ensures c.if-not-is_allowed.true))
 
-pub returns-then-not-is_piece : goal.returns-then-not-is_piece
-returns-then-not-is_piece c =
-    never (listing_fails c.loop-at.invariant c.loop-at-test.true
-    (if_no c.is_piece.ensures c.if-not-is_piece.true))
+pub loop-piece-preserved : goal.loop-piece-preserved
+loop-piece-preserved c =
+    let p = c.in-Some.piece in (
+      tt,
+      tt,
+      listing_more c.loop-piece.invariant.2 (as_entry p) _ c.in-Some.ensures.steps
+          (if_yes c.is_allowed.ensures c.if-not-is_allowed.false),
+    )
 
-pub overflow_add-at : goal.overflow_add-at
-overflow_add-at c =
-    let piece : PieceAt c.args.n c.args.list.now c.loop-at.at =
-    if_yes c.is_piece.ensures c.if-not-is_piece.false in
-    omega (arith, piece.fits)
+pub returns-then-not-is_empty : goal.returns-then-not-is_empty
+returns-then-not-is_empty c =
+    let s = c.in_default.ensures.steps in
+    listing_tells c.loop-piece.invariant.2 s.0
+    (λ e. true≢false (sym (eq-eqb (length c.args.list.now) 0 e) ∙ sym c.is_empty.ensures ∙ c.if-not-is_empty.true))
+    (c.is_empty-then-not-is_empty.ensures ∙ ap (λ (l : List ℕ). eqb (length l) 0) s.1)
 
-pub bounds-list-at : goal.bounds-list-at
-bounds-list-at c = c.loop-at-test.true
-
-pub overflow_add-at-in-loop-at : goal.overflow_add-at-in-loop-at
-overflow_add-at-in-loop-at c =
-    let piece : PieceAt c.args.n c.args.list.now c.loop-at.at =
-    if_yes c.is_piece.ensures c.if-not-is_piece.false in
-    omega (arith, piece.fits, c.wide.ensures)
-
-pub loop-at-smaller : goal.loop-at-smaller
-loop-at-smaller c = omega (arith, c.loop-at-test.true)
-
-pub loop-at-preserved : goal.loop-at-preserved
-loop-at-preserved c =
-    let piece : PieceAt c.args.n c.args.list.now c.loop-at.at =
-    if_yes c.is_piece.ensures c.if-not-is_piece.false in
-    listing_more c.loop-at.invariant c.loop-at-test.true c.wide.ensures piece
-
-pub returns : goal.returns
-returns c = listing_end c.loop-at.invariant c.loop-at-test.false
+pub returns-else-not-is_empty : goal.returns-else-not-is_empty
+returns-else-not-is_empty c =
+    let a = sym c.is_empty.ensures ∙ c.if-not-is_empty.false in
+    rw c.if-not-is_empty.false (never (no_listing (eqb-true (length c.args.list.now) 0 a)))

@@ -1,12 +1,9 @@
--- `checker::nested::all_fit`: the pieces from `at` on decide.
-use Prim.Native.Nat.{◌-◌}
-use lib.ListN.{length}
+-- `checker::nested::all_fit`: the pieces that are left decide.
 use Rattle.checker.proofs.Reading.{Walk}
 use Rattle.checker.proofs.Passes.{Fitting}
 use Rattle.checker.proofs.nested.all_fit.Given as goal
 
-abbrev pub invariant-loop-at : goal.invariant-loop-at
-invariant-loop-at l = Walk l.list (Fitting l.closings l.steps) l.at
-
-abbrev pub decreases-loop-at : goal.decreases-loop-at
-decreases-loop-at l = length l.list - l.at
+abbrev pub invariant-loop-piece : goal.invariant-loop-piece
+invariant-loop-piece l =
+    (goal.iterator-loop-piece).can_next l.piece-iterator × (goal.iterator-loop-piece).is_finite l.piece-iterator
+    × Walk l.list (Fitting l.closings l.steps) l.piece-iterator.rest.now
