@@ -8,58 +8,24 @@
 // difference and ends the file.
 #![tactic(auto)]
 
-use recorded::decimals::word_start;
-
-mod asked;
 mod call;
-mod due;
 mod got;
-mod same;
 
-use call::framed;
-use same::counted;
-
-// The file has fewer bytes.
-const TEXT: usize = 131072;
-
-#[derive(Drop)]
-struct Tally {
-    calls: u64,
-    differences: u64,
-}
-
-fn all(rt: &impl Print, c: bool, text: &[u8]) -> Tally {
-    let mut calls: u64 = 0;
-    let mut differences: u64 = 0;
-    let mut at = word_start(text, 0);
-    while at < text.len() {
-        calls += 1;
-        let ran = framed(rt, c, calls, text, at);
-        differences += counted(!ran.right);
-        let next = word_start(text, ran.next);
-        if next <= at {
-            return Tally {
-                calls: calls,
-                differences: differences,
-            };
-        }
-        at = next;
-    }
-    Tally {
-        calls: calls,
-        differences: differences,
-    }
-}
-
-fn report(rt: &impl Print, what: &str, t: Tally) {
-    let calls = t.calls;
-    let differences = t.differences;
-    let _ = println!(rt; "{what}: {calls} calls, {differences} differences");
-}
+use call::tried;
+use got::{for_c, plain};
+use trials::lines::file;
 
 fn main(rt: HostRuntime) {
-    let mut text = [0u8; TEXT];
-    let n = loading::load(&rt, "marks.txt", &mut text);
-    report(&rt, "marks.txt", all(&rt, false, &text[..n]));
-    report(&rt, "marks.txt, for C", all(&rt, true, &text[..n]));
+    let tally = file(
+        &rt,
+        "marks.txt",
+        |words, call| tried(&rt, words, call, plain),
+    );
+    let _ = println!(&rt; "marks.txt: {tally}");
+    let tally = file(
+        &rt,
+        "marks.txt",
+        |words, call| tried(&rt, words, call, for_c),
+    );
+    let _ = println!(&rt; "marks.txt, for C: {tally}");
 }
