@@ -1,52 +1,58 @@
--- The corners of a piece one after another: S is the piece, p a place in it, d the corner there.
-use mathlib.Core.Path.{◌≡◌, refl, sym, ap, ◌∙◌}
+-- The corners of a piece, tested: `rules` and std have the same words for it.
+use mathlib.Core.Path.{◌≡◌, refl, ap, ap₂, ◌∙◌}
 use mathlib.Core.Bool.{Bool, true, false, ◌&&◌}
+use mathlib.Core.List.{List, [], ◌∷◌, ◌++◌}
 use mathlib.Core.Logic.{inl, inr}
-use mathlib.Core.List.{List, [], ◌∷◌}
-use Prim.Native.Nat.{ℕ, zero, suc, ◌+◌, ◌<◌, ◌≤◌}
+use Prim.Native.Nat.{ℕ, zero, suc, ◌<◌}
 use native.Mathlib.Omega.{arith}
-use lib.ListN.{length, get_or, drop, drop_of_length-le}
-use lib.Seq.{drop-cons}
-use Rattle.limits.specs.Limits.{row}
+use lib.ListN.{length, get_or}
 use Rattle.rules.specs.Lists.{In}
-use Rattle.rules.specs.Lays.{all, first}
-use Rattle.telling.specs.Parts.{Small}
+use Rattle.std.specs.Prelude.{cond, Option, Some, None, unwrap_or}
+use Rattle.std.specs.Option.{option_map}
+use Rattle.std.specs.List.{list_all, find}
+use Rattle.rules.specs.Lays.{all, first, centre, lay_all}
 
-corner_in : (S : List ℕ) (p : ℕ) → p < length S → In (get_or S p 0) S
-corner_in [] p h = absurd (omega arith)
-corner_in (x ∷ S) zero h = inl refl
-corner_in (x ∷ S) (suc p) h = inr (corner_in S p (omega arith))
+pub in_at : (S : List ℕ) (k d : ℕ) → k < length S → In (get_or S k d) S
+in_at [] k d h = absurd (omega arith)
+in_at (x ∷ S) zero d h = inl refl
+in_at (x ∷ S) (suc k) d h = inr (in_at S k d (omega arith))
 
-pub corner_small : (S : List ℕ) {p d : ℕ} → Small S → d ≡ get_or S p 0 → p < length S → d < row
-corner_small S {p} m w h = omega (arith, m (get_or S p 0) (corner_in S p h))
+module _ (p : ℕ → Bool) where
+  pub all_is : (S : List ℕ) → list_all p S ≡ all p S
+  all_is [] = refl
+  all_is (x ∷ S) = ap (λ b. p x && b) (all_is S)
 
--- ---- a test of the corners from p on, and the first that passes it
-module _ (f : ℕ → Bool) (S : List ℕ) {p d : ℕ} (w : d ≡ get_or S p 0) (h : p < length S) where
-  next : drop p S ≡ d ∷ drop (p + 1) S
-  next =
-      let e : p + 1 ≡ suc p = omega arith in
-      drop-cons S p 0 h ∙ ap (λ (q : ℕ). get_or S p 0 ∷ drop q S) (sym e) ∙ ap (λ x. x ∷ drop (p + 1) S) (sym w)
+  first_is : (S : List ℕ) → unwrap_or (find p S) 0 ≡ first p S
+  first_is [] = refl
+  first_is (x ∷ S) = by (p x) (first_is S)
+    where
+      by : (b : Bool) → unwrap_or (find p S) 0 ≡ first p S →
+          unwrap_or (cond b (Some x) (find p S)) 0 ≡ elim b [ true ↦ x | false ↦ first p S ]
+      by true e = refl
+      by false e = e
 
-  all_next : all f S ≡ all f (drop p S) → all f S ≡ (f d && all f (drop (p + 1) S))
-  all_next e = e ∙ ap (all f) next
+  -- what is found, or 0
+  pub found_first : (S : List ℕ) (r : Option ℕ) → option_map (λ x. x) r ≡ find p S → unwrap_or r 0 ≡ first p S
+  found_first S None e = ap (λ q. unwrap_or q 0) e ∙ first_is S
+  found_first S (Some x) e = ap (λ q. unwrap_or q 0) e ∙ first_is S
 
-  pub all_on : all f S ≡ all f (drop p S) → f d ≡ true → all f S ≡ all f (drop (p + 1) S)
-  all_on e t = all_next e ∙ ap (λ b. b && all f (drop (p + 1) S)) t
+-- ---- tests that agree on the corners of pieces choose the same centres
+all_same : (p q : ℕ → Bool) (S : List ℕ) → ((x : ℕ) → In x S → p x ≡ q x) → all p S ≡ all q S
+all_same p q [] h = refl
+all_same p q (x ∷ S) h = ap₂ ◌&&◌ (h x (inl refl)) (all_same p q S (λ y i. h y (inr i)))
 
-  pub all_off : all f S ≡ all f (drop p S) → f d ≡ false → false ≡ all f S
-  all_off e t = sym (all_next e ∙ ap (λ b. b && all f (drop (p + 1) S)) t)
+first_same : (p q : ℕ → Bool) (S : List ℕ) → ((x : ℕ) → In x S → p x ≡ q x) → first p S ≡ first q S
+first_same p q [] h = refl
+first_same p q (x ∷ S) h =
+    ap₂ (λ b (r : ℕ). elim b [ true ↦ x | false ↦ r ]) (h x (inl refl)) (first_same p q S (λ y i. h y (inr i)))
 
-  first_next : first f S ≡ first f (drop p S) → first f S ≡ first f (d ∷ drop (p + 1) S)
-  first_next e = e ∙ ap (first f) next
+module _ (f g : ℕ → ℕ → Bool) where
+  centre_same : (S : List ℕ) → ((x y : ℕ) → In x S → In y S → f x y ≡ g x y) → centre f S ≡ centre g S
+  centre_same S h =
+      first_same (λ x. all (f x) S) (λ x. all (g x) S) S (λ x i. all_same (f x) (g x) S (λ y k. h x y i k))
 
-  pub first_on : first f S ≡ first f (drop p S) → f d ≡ false → first f S ≡ first f (drop (p + 1) S)
-  first_on e t = first_next e ∙ ap (λ b. elim b [ true ↦ d | false ↦ first f (drop (p + 1) S) ]) t
-
-  pub first_at : first f S ≡ first f (drop p S) → f d ≡ true → get_or S p 0 ≡ first f S
-  first_at e t = sym w ∙ sym (first_next e ∙ ap (λ b. elim b [ true ↦ d | false ↦ first f (drop (p + 1) S) ]) t)
-
-pub all_end : (f : ℕ → Bool) (S : List ℕ) {p : ℕ} → length S ≤ p → all f S ≡ all f (drop p S) → true ≡ all f S
-all_end f S h e = sym (e ∙ ap (all f) (drop_of_length-le S h))
-
-pub first_end : (f : ℕ → Bool) (S : List ℕ) {p : ℕ} → length S ≤ p → first f S ≡ first f (drop p S) → 0 ≡ first f S
-first_end f S h e = sym (e ∙ ap (first f) (drop_of_length-le S h))
+  pub lay_same : (l : List (List ℕ)) → ((S : List ℕ) → In S l → (x y : ℕ) → In x S → In y S → f x y ≡ g x y) →
+      lay_all (centre f) l ≡ lay_all (centre g) l
+  lay_same [] h = refl
+  lay_same (S ∷ l) h =
+      ap₂ (λ (k : ℕ) r. length S ∷ k ∷ (S ++ r)) (centre_same S (h S (inl refl))) (lay_same l (λ Q i. h Q (inr i)))

@@ -1,12 +1,12 @@
 -- what is told of the cells, as bytes
 mod Tellings
--- runs of stores
-mod Stores
--- the lines of a piece whose corners are read from the buffer
+-- what is written piece after piece
+mod Writes
+-- the lines of a piece one after another
 mod Lines
--- the corners of a piece one after another, as the pass reads them
+-- the corners of a piece, tested
 mod Corners
+-- a search from the top of a range down
+mod Down
 -- the pieces in a buffer one after another
 mod Passes
--- a law for each line of the table
-mod Refusals

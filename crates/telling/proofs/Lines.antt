@@ -1,194 +1,202 @@
--- The lines of a piece one after another, its corners read from the buffer; the ranges under them are stored behind
--- it.
+-- The lines of a piece one after another, by its corners; the ranges under them are written one behind another.
 --
---     out:  k 0 i . . c d . . j | the ranges under the lines so far |
---             from      p       at                                  past
-use mathlib.Core.Path.{◌≡◌, refl, sym, ap, ap₂, subst, ◌∙◌}
-use mathlib.Core.Logic.{◌⊎◌, inl, inr}
-use mathlib.Core.List.{List, [], ◌∷◌, ◌++◌}
-use Prim.Native.Nat.{ℕ, zero, suc, ◌+◌, ◌-◌, ◌<◌, ◌≤◌}
+--     corners:  i . . c d . . j      the lines before c are told, and `ahead` are the corners from d on
+use mathlib.Core.Path.{◌≡◌, sym, ap, ap₂, subst, ◌∙◌}
+use mathlib.Core.Logic.{◌⊎◌, inl, inr, by_cases}
+use mathlib.Core.List.{List, [], ◌∷◌, ◌++◌, append_assoc}
+use Prim.Native.Nat.{ℕ, ◌+◌, ◌-◌, ◌<◌, ◌≤◌}
 use native.Mathlib.Omega.{arith}
-use lib.ListN.{length, get_or, set, length-set, length-append}
-use lib.Seq.{sets, length-sets, get_or-set_same, get_or-set_other}
+use native.Mathlib.Decide.{dec_lt}
+use borrow.Rule.Slice.PartMut.{put_mid}
+use lib.ListN.{length, get_or, take, drop, length-append, length-drop}
 use Rattle.limits.specs.Limits.{row}
-use Rattle.rules.specs.Lists.{Rise}
 use Rattle.rules.specs.Cutting.{corners, below}
 use Rattle.rules.specs.Cells.{marked}
-use Rattle.rules.specs.Order.{tri}
 use Rattle.rules.specs.Walk.{Wide, After, walk, Step, step_from, step_next, step_on, narrower}
 use Rattle.rules.specs.Walk.{corners_more, corners_end, corners_rise}
+use Rattle.rules.specs.Lists.{Rise}
+use lib.Seq.{take-append_seam, drop-append_seam, drop-drop}
 use Rattle.rules.specs.Lays.{lay_all, blank}
-use Rattle.telling.specs.Parts.{Wrote, Reads, Standing, first_of, last_of}
+use Rattle.telling.specs.Parts.{Wrote, Corners, first_of, last_of}
 use Rattle.telling.specs.Parts.{corners_after, piece_bytes, lines_bytes, range_bytes}
 use Rattle.telling.proofs.Tellings.{pairs_wide, lines_more, lines_end, range_more}
-use Rattle.telling.proofs.Stores.{Left, left_none, left_run, left_end}
+use Rattle.telling.proofs.Writes.{Left, left_none, left_room, left_run, left_end, rest_is, rest_back}
 
--- ---- stores and reads: before the place of the stores nothing changes, and from there on the list is read
-sets_before : (l o : List ℕ) (at m : ℕ) → m < at → get_or (sets o at l) m 0 ≡ get_or o m 0
-sets_before [] o at m h = refl
-sets_before (x ∷ l) o at m h =
-    sets_before l (set o at x) (suc at) m (omega arith) ∙ get_or-set_other o at m x 0 (λ e. omega arith)
+-- ---- a piece that was written and split off: its corners, and what is written behind it
+rise_last : (a j : ℕ) (s : List ℕ) → Rise a j s → get_or (a ∷ s) (length s) 0 ≡ j
+rise_last a j [] h = h
+rise_last a j (b ∷ s) h = rise_last b j s h.1
 
-sets_read : (l o : List ℕ) (at k : ℕ) → k < length l → at + length l ≤ length o →
-    get_or (sets o at l) (at + k) 0 ≡ get_or l k 0
-sets_read [] o at k h r = absurd (omega arith)
-sets_read (x ∷ l) o at zero h r =
-    let e : at + 0 ≡ at = omega arith in
-    ap (λ (m : ℕ). get_or (sets (set o at x) (suc at) l) m 0) e
-    ∙ sets_before l (set o at x) (suc at) at (omega arith)
-    ∙ get_or-set_same o at x 0 (omega arith)
-sets_read (x ∷ l) o at (suc k) h r =
-    let e : at + suc k ≡ suc at + k = omega arith in
-    ap (λ (m : ℕ). get_or (sets (set o at x) (suc at) l) m 0) e
-    ∙ sets_read l (set o at x) (suc at) k (omega arith) (omega (arith, length-set o at x))
-
--- ---- a piece that was written stands in the buffer, from its first corner i to its last corner j
-pub range_standing : {pairs o o' : List ℕ} {i j at r : ℕ} → i + 1 < j → j < row →
-    at + length (range_bytes pairs i j) ≤ length o → Wrote o o' at r (piece_bytes pairs i j) →
-    Standing pairs o' i j (at + 2) r
-range_standing {pairs} {o} {o'} {i} {j} {at} l m h w =
-    let t = piece_bytes pairs i j in
-    let two = simp length-append at (ap length (range_more (pairs_wide pairs) i j l)) in
-    record {
-      apart = l;
-      small = m;
-      place = omega (arith, w.past);
-      first = ap (λ q. get_or q (at + 2) 0) w.now ∙ sets_read t o at 2 (omega arith) (omega (arith, h, two));
-      others = λ n g.
-          let e : at + 2 + 1 + n ≡ at + suc (suc (suc n)) = omega arith in
-          ap₂ (λ q (x : ℕ). get_or q x 0) w.now e
-          ∙ sets_read t o at (suc (suc (suc n))) (omega arith) (omega (arith, h, two));
-      room = omega (arith, h, two, w.past, ap length w.now ∙ length-sets o at t);
-    }
-
-rise_end : (a j : ℕ) (s : List ℕ) (m : ℕ) → Rise a j s → length s ≡ suc m → get_or s m 0 ≡ j
-rise_end a j [] m h e = absurd (omega (arith, e))
-rise_end a j (b ∷ []) zero h e = h.1
-rise_end a j (b ∷ []) (suc m) h e = absurd (omega (arith, e))
-rise_end a j (b ∷ c ∷ s) zero h e = absurd (omega (arith, e))
-rise_end a j (b ∷ c ∷ s) (suc m) h e = rise_end b j (c ∷ s) m h.1 (omega (arith, e))
-
-rise_some : (a j : ℕ) (s : List ℕ) → Rise a j s → a < j → 0 < length s
-rise_some a j [] h l = absurd (omega arith)
-rise_some a j (b ∷ s) h l = omega arith
-
-standing_last : {pairs out : List ℕ} {i j from at : ℕ} → Standing pairs out i j from at → last_of out at ≡ j
-standing_last {pairs} {out} {i} {j} {from} {at} s =
+corners_last : (pairs : List ℕ) (i j : ℕ) → i + 1 < j → last_of (i ∷ corners_after pairs i j) ≡ j
+corners_last pairs i j l =
     let S = corners_after pairs i j in
-    let rise = corners_rise (pairs_wide pairs) i j s.apart in
-    let some = rise_some i j S rise (omega (arith, s.apart)) in
-    let e : at - 1 ≡ from + 1 + (length S - 1) = omega (arith, s.place) in
-    ap (λ (q : ℕ). get_or out q 0) e
-    ∙ s.others (length S - 1) (omega arith)
-    ∙ rise_end i j S (length S - 1) rise (omega arith)
+    let e : length (i ∷ S) - 1 ≡ length S = omega arith in
+    ap (λ (k : ℕ). get_or (i ∷ S) k 0) e ∙ rise_last i j S (corners_rise (pairs_wide pairs) i j l)
 
--- so its ends can be read
-module _ {pairs out : List ℕ} {i j from at : ℕ} (s : Standing pairs out i j from at) where
-  pub standing_width : last_of out at - first_of out from ≡ j - i
-  standing_width = ap₂ ◌-◌ (standing_last s) s.first
+piece_corners : {pairs S : List ℕ} {i j : ℕ} → i + 1 < j → j < row → S ≡ i ∷ corners_after pairs i j →
+    Corners pairs S × (first_of S ≡ i) × (last_of S ≡ j)
+piece_corners {pairs} {S} {i} {j} l m e =
+    let f : first_of S ≡ i = ap first_of e in
+    let g : last_of S ≡ j = ap last_of e ∙ corners_last pairs i j l in (
+      record {
+        apart = omega (arith, f, g);
+        small = omega (arith, g);
+        are = e ∙ ap₂ (λ (x y : ℕ). x ∷ corners_after pairs x y) (sym f) (sym g);
+      },
+      f,
+      g,
+    )
 
-  pub standing_read : Standing pairs out (first_of out from) (last_of out at) from at
-  standing_read =
-      subst (λ (x : ℕ). Standing pairs out x (last_of out at) from at) (sym s.first)
-      (subst (λ (y : ℕ). Standing pairs out i y from at) (sym (standing_last s)) s)
+pub record Split (pairs o p q : List ℕ) (i j r : ℕ) : Type 0 where
+  pub apart : i + 1 < j
+  pub small : j < row
+  pub long : length p ≡ r
+  pub wrote : Wrote o (p ++ q) r (piece_bytes pairs i j)
 
-  pub standing_lines : {out' : List ℕ} {r : ℕ} →
-      Wrote out out' at r (lines_bytes pairs (first_of out from) (last_of out at)) →
-      Wrote out out' at r (lines_bytes pairs i j)
-  standing_lines {out'} {r} w =
-      let e : lines_bytes pairs (first_of out from) (last_of out at) ≡ lines_bytes pairs i j =
-      ap₂ (λ (x y : ℕ). lines_bytes pairs x y) s.first (standing_last s)
-      in
-      subst (Wrote out out' at r) e w
+pub split : {pairs o both p q : List ℕ} {i j r : ℕ} → i + 1 < j → j < row → Wrote o both r (piece_bytes pairs i j) →
+    both ≡ p ++ q → length p ≡ r → Split pairs o p q i j r
+split l m w e n = record { apart = l; small = m; long = n; wrote = record { past = w.past; now = sym e ∙ w.now } }
 
--- ---- the lines before the corner c are told; p is the place of the next corner
-pub record Walked (pairs out₀ : List ℕ) (i j at : ℕ) (out : List ℕ) (c p past : ℕ) : Type 0 where
+module _ {pairs o p q : List ℕ} {i j r : ℕ} (s : Split pairs o p q i j r) where
+  split_front : p ≡ piece_bytes pairs i j
+  split_front =
+      sym (take-append_seam p q) ∙ ap₂ take (s.long ∙ s.wrote.past) s.wrote.now
+      ∙ take-append_seam (piece_bytes pairs i j) (drop (length (piece_bytes pairs i j)) o)
+
+  split_back : q ≡ drop (length (piece_bytes pairs i j)) o
+  split_back =
+      sym (drop-append_seam p q) ∙ ap₂ drop (s.long ∙ s.wrote.past) s.wrote.now
+      ∙ drop-append_seam (piece_bytes pairs i j) (drop (length (piece_bytes pairs i j)) o)
+
+  pub split_corners : (let S = take (length p - 2) (drop 2 p) in Corners pairs S × (first_of S ≡ i) × (last_of S ≡ j))
+  split_corners = piece_corners s.apart s.small (rest_is 2 p ∙ ap (drop 2) split_front)
+
+  lines_are : lines_bytes pairs (first_of (take (length p - 2) (drop 2 p))) (last_of (take (length p - 2) (drop 2 p)))
+      ≡ lines_bytes pairs i j
+  lines_are = ap₂ (lines_bytes pairs) split_corners.1 split_corners.2
+
+  both_bytes : range_bytes pairs i j ≡ piece_bytes pairs i j ++ lines_bytes pairs i j
+  both_bytes = range_more (pairs_wide pairs) i j s.apart
+
+  pub split_room : length (range_bytes pairs i j) ≤ length o →
+      (let S = take (length p - 2) (drop 2 p) in length (lines_bytes pairs (first_of S) (last_of S)) ≤ length q)
+  split_room h =
+      let two = simp length-append at (ap length both_bytes) in
+      omega (arith, h, two, ap length lines_are, ap length split_back, length-drop (length (piece_bytes pairs i j)) o)
+
+  pub split_wrote : {q' : List ℕ} {k : ℕ} →
+      (let S = take (length p - 2) (drop 2 p) in Wrote q q' k (lines_bytes pairs (first_of S) (last_of S))) →
+      Wrote o (p ++ q') (r + k) (range_bytes pairs i j)
+  split_wrote {q'} {k} v =
+      let a = piece_bytes pairs i j in
+      let b = lines_bytes pairs i j in
+      let n = length-append a b in
+      record {
+        past = omega (arith, s.wrote.past, v.past, ap length lines_are, ap length both_bytes, n);
+        now =
+            ap₂ ◌++◌ split_front v.now
+            ∙ ap₂ (λ t u. a ++ (t ++ drop (length t) u)) lines_are split_back
+            ∙ ap (λ u. a ++ (b ++ u)) (drop-drop (length b) (length a) o ∙ ap (λ (x : ℕ). drop x o) (sym n))
+            ∙ sym (append_assoc a b (drop (length (a ++ b)) o))
+            ∙ ap (λ t. t ++ drop (length t) o) (sym both_bytes);
+      }
+
+pub record Walked (pairs before : List ℕ) (i j : ℕ) (from ahead now : List ℕ) (past : ℕ) : Type 0 where
+  pub c : ℕ
   pub top : ℕ
   pub step : Step i j c top
-  pub left : Left (lines_bytes pairs i j) (lay_all blank (below c (walk (marked pairs) c top j))) out₀ out at past
-  pub ahead : Reads out p (corners (walk (marked pairs) c top j))
-  pub end : p + length (corners (walk (marked pairs) c top j)) ≡ at
-  pub behind : at ≤ past
+  pub left : Left (lines_bytes pairs i j) (lay_all blank (below c (walk (marked pairs) c top j))) before now past
+  pub ahead_is : ahead ≡ corners (walk (marked pairs) c top j)
+  pub from_is : from ≡ c ∷ ahead
 
-pub walked_none : {pairs out : List ℕ} {i j from at c : ℕ} → Standing pairs out i j from at → c ≡ i →
-    Walked pairs out i j at out c (from + 1) at
-walked_none {pairs} {out} {i} {j} {from} {at} s e =
-    subst (λ (q : ℕ). Walked pairs out i j at out q (from + 1) at) (sym e)
-    (record {
-      top = j;
-      step = step_from s.apart;
-      left = left_none s.room;
-      ahead = s.others;
-      end = omega (arith, s.place);
-      behind = omega arith;
-    })
+pub walked_none : {pairs S out ahead : List ℕ} (h : Corners pairs S) →
+    length (lines_bytes pairs (first_of S) (last_of S)) ≤ length out → ahead ≡ drop 1 S →
+    Walked pairs out (first_of S) (last_of S) S ahead out 0
+walked_none {S} h room e = record {
+  c = first_of S;
+  top = last_of S;
+  step = step_from h.apart;
+  left = left_none room;
+  ahead_is = e ∙ ap (drop 1) h.are;
+  from_is = h.are ∙ ap (λ q. first_of S ∷ q) (sym (e ∙ ap (drop 1) h.are));
+}
 
-module _ {pairs out₀ : List ℕ} {i j at : ℕ} {out : List ℕ} {c p past : ℕ}
-    (v : Walked pairs out₀ i j at out c p past) where
+module _ {pairs before : List ℕ} {i j : ℕ} {from ahead now : List ℕ} {past : ℕ}
+    (v : Walked pairs before i j from ahead now past) where
   wide : Wide (marked pairs)
   wide = pairs_wide pairs
 
-  -- where there is a next corner, c is not the last one
-  on : p < at → c < j
-  on l = go (tri c j)
-    where
-      none : j ≤ c → c < j
-      none h = absurd (omega (arith, v.end, ap length (corners_end (marked pairs) c v.top j h)))
+  module _ {a b : ℕ} {from' ahead' : List ℕ} (e : from ≡ a ∷ from') (f : ahead ≡ b ∷ ahead') where
+    at : v.c ≡ a
+    at = ap (λ q. get_or q 0 0) (sym v.from_is ∙ e)
 
-      go : (c < j) ⊎ ((c ≡ j) ⊎ (j < c)) → c < j
-      go (inl h) = h
-      go (inr (inl h)) = none (omega arith)
-      go (inr (inr h)) = none (omega arith)
+    on : v.c < j
+    on = by_cases (dec_lt v.c j) (λ l. l) (λ n.
+        let none = corners_end (marked pairs) v.c v.top j (omega arith) in
+        absurd (omega (arith, ap length (sym f ∙ v.ahead_is ∙ none))))
 
-  module _ {d : ℕ} (l : p < at) (e : d ≡ get_or out p 0) where
-    -- and it is what is read
-    pub walked_next : After (marked pairs) c v.top d
-    walked_next =
-        let n = step_next wide v.step (on l) in
-        let z : p ≡ p + 0 = omega arith in
-        let r = v.ahead 0 (omega (arith, v.end)) ∙ ap (λ q. get_or q 0 0) (corners_more wide v.step n (on l)) in
-        subst (After (marked pairs) c v.top) (sym (e ∙ ap (λ (q : ℕ). get_or out q 0) z ∙ r)) n
+    -- the next corner is the one that is read
+    next : After (marked pairs) v.c v.top b
+    next =
+        let n = step_next wide v.step on in
+        subst (After (marked pairs) v.c v.top)
+        (sym (ap (λ q. get_or q 0 0) (sym f ∙ v.ahead_is ∙ corners_more wide v.step n on))) n
 
     -- the line to it is narrower than the range of the piece, and there is room for what stands under it
-    pub walked_narrow : d + i < j + c
-    walked_narrow = narrower wide v.step walked_next (on l)
+    pub walked_width : (a < b) × (b ≤ j) × (b + i < j + a)
+    walked_width =
+        let n = narrower wide v.step next on in (
+          omega (arith, at, next.after),
+          omega (arith, next.below, v.step.high),
+          omega (arith, at, n),
+        )
 
-    pub walked_high : d ≤ j
-    walked_high = omega (arith, walked_next.below, v.step.high)
+    more : lay_all blank (below v.c (walk (marked pairs) v.c v.top j))
+        ≡ range_bytes pairs a b ++ lay_all blank (below b (walk (marked pairs) b (j + 1) j))
+    more =
+        lines_more wide v.step next on
+        ∙ ap (λ (q : ℕ). range_bytes pairs q b ++ lay_all blank (below b (walk (marked pairs) b (j + 1) j))) at
 
-    more : lay_all blank (below c (walk (marked pairs) c v.top j))
-        ≡ range_bytes pairs c d ++ lay_all blank (below d (walk (marked pairs) d (j + 1) j))
-    more = lines_more wide v.step walked_next (on l)
+    room : past + length (range_bytes pairs a b) ≤ length now
+    room = omega (arith, left_room v.left, simp length-append at (ap length more))
 
-    pub walked_room : past + length (range_bytes pairs c d) ≤ length out
-    walked_room = omega (arith, v.left.room, simp length-append at (ap length more))
+    pub walked_room : {at : ℕ} → at ≤ past →
+        length (range_bytes pairs a b) ≤ length (take (length now - at) (drop at now))
+    walked_room {at} l = omega (arith, room, ap length (rest_is at now), length-drop at now)
 
-    pub walked_more : {out' : List ℕ} {r q : ℕ} → Wrote out out' q r (range_bytes pairs c d) → q ≡ past →
-        Walked pairs out₀ i j at out' d (p + 1) r
-    walked_more {out'} {r} {q} w g =
-        let s = corners_more wide v.step walked_next (on l) in
+    more_told : {now' : List ℕ} {r : ℕ} → Wrote (drop past now) now' r (range_bytes pairs a b) →
+        Walked pairs before i j from' ahead' (take past now ++ now') (past + r)
+    more_told w =
+        let s = corners_more wide v.step next on in
+        let k = ap (drop 1) (sym f ∙ v.ahead_is ∙ s) in
         record {
+          c = b;
           top = j + 1;
-          step = step_on wide v.step walked_next (on l);
-          left = left_run v.left more w g;
-          ahead = λ k h.
-              let z : p + 1 + k ≡ p + suc k = omega arith in
-              ap (λ x. get_or x (p + 1 + k) 0) w.now
-              ∙ sets_before (range_bytes pairs c d) out q (p + 1 + k)
-              (omega (arith, g, v.behind, v.end, ap length s))
-              ∙ ap (λ (x : ℕ). get_or out x 0) z
-              ∙ v.ahead (suc k) (omega (arith, ap length s))
-              ∙ ap (λ x. get_or x (suc k) 0) s;
-          end = omega (arith, v.end, ap length s);
-          behind = omega (arith, w.past, g, v.behind);
+          step = step_on wide v.step next on;
+          left = left_run v.left more w;
+          ahead_is = k;
+          from_is = ap (drop 1) (sym e ∙ v.from_is) ∙ f;
         }
 
-  pub walked_end : at ≤ p → Wrote out₀ out at past (lines_bytes pairs i j)
-  walked_end l = left_end v.left (lines_end (marked pairs) c v.top j (go (tri c j)))
-    where
-      go : (c < j) ⊎ ((c ≡ j) ⊎ (j < c)) → j ≤ c
-      go (inl h) =
-          let s = corners_more wide v.step (step_next wide v.step h) h in
-          absurd (omega (arith, v.end, ap length s))
-      go (inr (inl h)) = omega arith
-      go (inr (inr h)) = omega arith
+    -- what is written begins where the ranges before it end
+    told_next : {now' : List ℕ} {r : ℕ} →
+        Wrote (take (length now - past) (drop past now)) now' r (range_bytes pairs a b) →
+        Walked pairs before i j from' ahead' (put_mid past (length now - past) now now') (past + r)
+    told_next {now'} {r} w =
+        let back = rest_back past now now' (omega (arith, room)) in
+        let u = subst (λ q. Wrote q now' r (range_bytes pairs a b)) (rest_is past now) w in
+        subst (λ q. Walked pairs before i j from' ahead' q (past + r)) (sym back) (more_told u)
+
+    pub walked_next : {at : ℕ} {now' : List ℕ} {r : ℕ} → at ≡ past →
+        Wrote (take (length now - at) (drop at now)) now' r (range_bytes pairs a b) →
+        Walked pairs before i j from' ahead' (put_mid at (length now - at) now now') (past + r)
+    walked_next {now' = now'} {r} z =
+        subst (λ (q : ℕ). Wrote (take (length now - q) (drop q now)) now' r (range_bytes pairs a b) →
+        Walked pairs before i j from' ahead' (put_mid q (length now - q) now now') (past + r)) (sym z) told_next
+
+  pub walked_end : (from ≡ []) ⊎ (ahead ≡ []) → Wrote before now past (lines_bytes pairs i j)
+  walked_end (inl e) = absurd (omega (arith, ap length (sym e ∙ v.from_is)))
+  walked_end (inr e) =
+      left_end v.left (lines_end (marked pairs) v.c v.top j (by_cases (dec_lt v.c j) (λ l.
+      let more = corners_more wide v.step (step_next wide v.step l) l in
+      absurd (omega (arith, ap length (sym e ∙ v.ahead_is ∙ more)))) (λ n. omega arith)))

@@ -1,10 +1,10 @@
 -- What the functions promise each other: what is told of the cells, runs of stores, and pieces in a buffer.
-use Rattle.std.specs.Prelude.{◌≡◌, List, ◌∷◌, ◌++◌, ℕ, ◌+◌, ◌-◌, ◌<◌, ◌≤◌, length, get_or}
-use Rattle.std.proofs.lemmas.List.Edits.{sets}
-use Rattle.limits.specs.Limits.{row}
+use Rattle.std.specs.Prelude.{◌≡◌, List, ◌∷◌, ◌++◌, ℕ, ◌+◌, ◌-◌, ◌<◌, ◌≤◌, length, get_or, take, drop}
+use Rattle.std.specs.List.{All}
+use denote.Ref.{Bor}
+use Rattle.limits.specs.Limits.{row, all_cells}
 use Rattle.rules.specs.Lists.{In}
 use Rattle.rules.specs.Cutting.{corners, below, told}
-use Rattle.rules.specs.Centre.{size}
 use Rattle.rules.specs.Lays.{centre}
 use Rattle.rules.specs.Cells.{marked, both_see}
 use Rattle.rules.specs.Walk.{walk, line}
@@ -24,50 +24,40 @@ lines_bytes t i j = lay_all blank (below i (walk (marked t) i j j))
 abbrev pub range_bytes : List ℕ → ℕ → ℕ → List ℕ
 range_bytes t i j = lay_all blank (told i (line (marked t) i j))
 
--- ---- l was stored from at on, and r is the place after it
-pub record Wrote (out out' : List ℕ) (at r : ℕ) (l : List ℕ) : Type 0 where
-  pub past : r ≡ at + length l
-  pub now : out' ≡ sets out at l
+-- ---- the cells of an array that has them all
+abbrev pub IsWhole : List ℕ → Bor (List ℕ) → Type 0
+IsWhole array cells = (all_cells ≤ length array) × (cells.now ≡ take all_cells array)
 
--- ---- a piece in the buffer
-abbrev pub first_of : List ℕ → ℕ → ℕ
-first_of out from = get_or out from 0
+-- ---- l was written to the beginning of the buffer, and r is its length
+pub record Wrote (out out' : List ℕ) (r : ℕ) (l : List ℕ) : Type 0 where
+  pub past : r ≡ length l
+  pub now : out' ≡ l ++ drop (length l) out
 
-abbrev pub last_of : List ℕ → ℕ → ℕ
-last_of out at = get_or out (at - 1) 0
+-- ---- a piece by its corners
+abbrev pub first_of : List ℕ → ℕ
+first_of corners = get_or corners 0 0
 
--- s stands in out from p on
-abbrev pub Reads : List ℕ → ℕ → List ℕ → Type 0
-Reads out p s = (k : ℕ) → k < length s → get_or out (p + k) 0 ≡ get_or s k 0
+abbrev pub last_of : List ℕ → ℕ
+last_of corners = get_or corners (length corners - 1) 0
 
--- out[from..at] are the corners of the piece on the line i j, and there is room for the ranges under its lines
-pub record Standing (pairs out : List ℕ) (i j from at : ℕ) : Type 0 where
-  pub apart : i + 1 < j
-  pub small : j < row
-  pub place : at ≡ from + 1 + length (corners_after pairs i j)
-  pub first : get_or out from 0 ≡ i
-  pub others : Reads out (from + 1) (corners_after pairs i j)
-  pub room : at + length (lines_bytes pairs i j) ≤ length out
+-- these are the corners of the piece on the line from the first of them to the last
+pub record Corners (pairs corners : List ℕ) : Type 0 where
+  pub apart : first_of corners + 1 < last_of corners
+  pub small : last_of corners < row
+  pub are : corners ≡ first_of corners ∷ corners_after pairs (first_of corners) (last_of corners)
 
 -- ---- corners that have cells
 abbrev pub Small : List ℕ → Type 0
-Small S = (x : ℕ) → In x S → x < row
+Small S = All (λ x. x < row) S
 
--- out is the bytes of the pieces l, which are the first `used`, and then rest; c says what stands in the centre's
--- place
-pub record Holds (c : List ℕ → ℕ) (l : List (List ℕ)) (used : ℕ) (rest out : List ℕ) : Type 0 where
-  pub bytes : used ≡ size l
-  pub is : out ≡ lay_all c l ++ rest
-
--- out begins with pieces whose corners have cells, whatever stands in the centre's place
-pub record Pieces (used : ℕ) (out : List ℕ) : Type 0 where
+-- these are the bytes of pieces whose corners have cells, whatever stands in the centre's place
+pub record Pieces (told : List ℕ) : Type 0 where
   pub shown : List ℕ → ℕ
   pub l : List (List ℕ)
-  pub rest : List ℕ
-  pub holds : Holds shown l used rest out
+  pub are : told ≡ lay_all shown l
   pub small : (S : List ℕ) → In S l → Small S
 
--- the pieces are kept, and what follows them, and each has its lowest centre (0 where it has none)
-abbrev pub Centred : List ℕ → List ℕ → ℕ → List ℕ → List ℕ → Type 0
-Centred first second used before after = (o : List ℕ → ℕ) (l : List (List ℕ)) (rest : List ℕ) →
-    Holds o l used rest before → Holds (centre (both_see first second)) l used rest after
+-- the pieces are kept, and each has its lowest centre (0 where it has none)
+abbrev pub Centred : List ℕ → List ℕ → List ℕ → List ℕ → Type 0
+Centred first second before after = (o : List ℕ → ℕ) (l : List (List ℕ)) → before ≡ lay_all o l →
+    after ≡ lay_all (centre (both_see first second)) l

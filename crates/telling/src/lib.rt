@@ -9,10 +9,15 @@ mod cells;
 mod centres;
 mod ranges;
 
+ghost use Rattle.std.specs.Prelude.{◌≡◌, ◌<◌, length, MatchResult};
+ghost use Rattle.limits.specs.Limits.{all_cells};
 ghost use Rattle.telling.specs.Answer.{result_of, Telling};
+ghost use Rattle.telling.specs.Parts.{IsWhole};
+ghost use Rattle.telling.specs.declared.Refusal.TheVariants.{Unserved};
 
-use centres::put_centres;
-use limits::{ALL_CELLS, FEWEST_CORNERS, MOST_CORNERS};
+use cells::Cells;
+use centres::Sights;
+use limits::{FEWEST_CORNERS, MOST_CORNERS};
 use ranges::write_range;
 
 // What was told: the count of pieces and the count of bytes used.
@@ -30,6 +35,13 @@ pub enum Refusal {
     Short,
 }
 
+// The cells of a whole array, which may go on beyond them.
+fn whole(cells: &[u8]) -> Result<&Cells, Refusal>
+    ensures { MatchResult result (IsWhole cells.now) (λ e. (length cells.now < all_cells) × (e ≡ Unserved)) }
+{
+    cells.first_chunk().ok_or(Refusal::Unserved)
+}
+
 // The pieces of n corners cut along `pairs`, each with its lowest centre. The pair a < b is in the set where cell
 // a * ROW + b of `pairs` is not 0; x, as a centre, sees y in a drawing where cell x * ROW + y of `first` or `second`
 // has the 2 among its binary digits, and no other digit counts. The pairs may cross: what is told of them is fixed all
@@ -43,26 +55,17 @@ pub fn tell(
 ) -> Result<Told, Refusal>
     ensures { Telling n pairs.now first.now second.now out.old (result_of result out.new) }
 {
-    if n < FEWEST_CORNERS {
+    if !(FEWEST_CORNERS..=MOST_CORNERS).contains(&n) {
         return Err(Refusal::Unserved);
     }
-    if n > MOST_CORNERS {
-        return Err(Refusal::Unserved);
-    }
-    if pairs.len() < ALL_CELLS {
-        return Err(Refusal::Unserved);
-    }
-    if first.len() < ALL_CELLS {
-        return Err(Refusal::Unserved);
-    }
-    if second.len() < ALL_CELLS {
-        return Err(Refusal::Unserved);
-    }
+    let pairs = whole(pairs)?;
+    let first = whole(first)?;
+    let second = whole(second)?;
     if out.len() < 5 * n - 10 {
         return Err(Refusal::Short);
     }
-    let bytes = write_range(pairs, 0, n - 1, out, 0);
-    put_centres(first, second, out, bytes);
+    let bytes = write_range(pairs, 0, n - 1, out);
+    Sights { first, second }.put_centres(&mut out[..bytes]);
     Ok(Told {
         pieces: (bytes + 2 - n) / 4,
         bytes,

@@ -7,40 +7,36 @@
 //     out:  k 0 i . . c d . . j | k 0 ..    The piece is written, and behind it the ranges under its lines, which are
 //                                           read from it.
 //
-// What is returned is the place after what was written.
+// Each writes to the beginning of `out`, and returns how many bytes it wrote.
 ghost use Rattle.std.specs.Prelude.{◌+◌, ◌<◌, ◌≤◌, length};
-ghost use Rattle.limits.specs.Limits.{row, all_cells};
+ghost use Rattle.limits.specs.Limits.{row};
 ghost use Rattle.rules.specs.Cells.{marked};
 ghost use Rattle.rules.specs.Walk.{After};
-ghost use Rattle.telling.specs.Parts.{Wrote, Standing, first_of, last_of};
+ghost use Rattle.telling.specs.Parts.{Wrote, Corners, first_of, last_of};
 ghost use Rattle.telling.specs.Parts.{corners_after, piece_bytes, lines_bytes, range_bytes};
 
-use crate::cells::{has, wide};
+use crate::cells::{Cells, has};
 
 // The furthest corner below `top` that a is joined to.
-fn furthest(pairs: &[u8], a: usize, top: usize) -> usize
-    requires { (all_cells ≤ length pairs.now) × (a + 1 < top) × (top ≤ row) }
+fn furthest(pairs: &Cells, a: usize, top: usize) -> usize
+    requires { (a + 1 < top) × (top ≤ row) }
     ensures { After (marked pairs.now) a top result }
 {
-    let mut t = top - 1;
-    while t > a + 1 {
-        if has(pairs, a, t) {
-            return t;
-        }
-        t -= 1;
-    }
-    a + 1
+    (a + 2..top)
+        .rev()
+        .find(|t| has(pairs, a, *t))
+        .unwrap_or(a + 1)
 }
 
-// The corners after i of the piece on the line i j, from `at` on.
-fn spell(pairs: &[u8], i: usize, j: usize, out: &mut [u8], at: usize) -> usize
-    requires all_cells_in_bounds { (all_cells ≤ length pairs.now) × (i + 1 < j) × (j < row) }
-    requires j_in_bounds { at + length (corners_after pairs.now i j) ≤ length out.old }
-    ensures { Wrote out.old out.new at result (corners_after pairs.now i j) }
+// The corners after i of the piece on the line i j.
+fn spell(pairs: &Cells, i: usize, j: usize, out: &mut [u8]) -> usize
+    requires corners { (i + 1 < j) × (j < row) }
+    requires room { length (corners_after pairs.now i j) ≤ length out.old }
+    ensures { Wrote out.old out.new result (corners_after pairs.now i j) }
 {
     let mut c = i;
     let mut top = j;
-    let mut past = at;
+    let mut past = 0;
     while c < j {
         c = furthest(pairs, c, top);
         top = j + 1;
@@ -51,48 +47,44 @@ fn spell(pairs: &[u8], i: usize, j: usize, out: &mut [u8], at: usize) -> usize
 }
 
 // The bytes of that piece: the number of its corners, no centre yet, its corners.
-fn piece(pairs: &[u8], i: usize, j: usize, out: &mut [u8], at: usize) -> usize
-    requires all_cells_in_bounds { (all_cells ≤ length pairs.now) × (i + 1 < j) × (j < row) }
-    requires j_in_bounds { at + length (piece_bytes pairs.now i j) ≤ length out.old }
-    ensures { Wrote out.old out.new at result (piece_bytes pairs.now i j) }
+fn piece(pairs: &Cells, i: usize, j: usize, out: &mut [u8]) -> usize
+    requires corners { (i + 1 < j) × (j < row) }
+    requires room { length (piece_bytes pairs.now i j) ≤ length out.old }
+    ensures { Wrote out.old out.new result (piece_bytes pairs.now i j) }
 {
-    let past = spell(pairs, i, j, out, at + 3);
-    out[at] = (past - at - 2) as u8;
-    out[at + 1] = 0;
-    out[at + 2] = i as u8;
-    past
+    let after = spell(pairs, i, j, &mut out[3..]);
+    out[0] = (after + 1) as u8;
+    out[1] = 0;
+    out[2] = i as u8;
+    after + 3
 }
 
 // A range is told by its piece ..
 #[cycle(walk_lines_write_range)]
-pub fn write_range(pairs: &[u8], i: usize, j: usize, out: &mut [u8], at: usize) -> usize
-    requires all_cells_in_bounds { (all_cells ≤ length pairs.now) × (i < j) × (j < row) }
-    requires j_in_bounds { at + length (range_bytes pairs.now i j) ≤ length out.old }
-    ensures { Wrote out.old out.new at result (range_bytes pairs.now i j) }
+pub fn write_range(pairs: &Cells, i: usize, j: usize, out: &mut [u8]) -> usize
+    requires corners { (i < j) × (j < row) }
+    requires room { length (range_bytes pairs.now i j) ≤ length out.old }
+    ensures { Wrote out.old out.new result (range_bytes pairs.now i j) }
 {
     if j <= i + 1 {
-        return at;
+        return 0;
     }
-    let past = piece(pairs, i, j, out, at);
-    walk_lines(pairs, out, at + 2, past)
+    let bytes = piece(pairs, i, j, out);
+    let (told, rest) = out.split_at_mut(bytes);
+    bytes + walk_lines(pairs, &told[2..], rest)
 }
 
-// .. and a piece by the ranges under its lines, from left to right. Its corners are out[from..at].
+// .. and a piece by the ranges under its lines, from left to right.
 #[cycle(walk_lines_write_range)]
-fn walk_lines(pairs: &[u8], out: &mut [u8], from: usize, at: usize) -> usize
-    requires all_cells_in_bounds { all_cells ≤ length pairs.now }
-    requires standing { Standing pairs.now out.old (first_of out.old from) (last_of out.old at) from at }
-    ensures { Wrote out.old out.new at result
-        (lines_bytes pairs.now (first_of out.old from) (last_of out.old at)) }
+fn walk_lines(pairs: &Cells, corners: &[u8], out: &mut [u8]) -> usize
+    requires corners { Corners pairs.now corners.now }
+    requires room { length (lines_bytes pairs.now (first_of corners.now) (last_of corners.now)) ≤ length out.old }
+    ensures { Wrote out.old out.new result
+        (lines_bytes pairs.now (first_of corners.now) (last_of corners.now)) }
 {
-    let mut c = wide(out[from]);
-    let mut p = from + 1;
-    let mut past = at;
-    while p < at {
-        let d = wide(out[p]);
-        past = write_range(pairs, c, d, out, past);
-        c = d;
-        p += 1;
+    let mut past = 0;
+    for (c, d) in corners.iter().zip(&corners[1..]) {
+        past += write_range(pairs, usize::from(*c), usize::from(*d), &mut out[past..]);
     }
     past
 }

@@ -1,26 +1,16 @@
--- `ranges::furthest`: no pair from a goes to a corner above t and below top.
-use mathlib.Core.Path.{sym, ◌∙◌}
-use native.Mathlib.Omega.{arith}
-use Rattle.rules.specs.Cells.{marked}
-use Rattle.rules.specs.Walk.{seek_from, seek_hit, seek_on, seek_end}
-use Rattle.telling.proofs.Tellings.{pairs_wide, pair_is}
+-- `ranges::furthest`: what is found is the furthest corner that a is joined to by a pair.
+use Rattle.std.proofs.Common.{rules, tests, ◌≡◌, true, false, ap}
+use Rattle.rules.specs.Cells.{filled}
+use Rattle.telling.proofs.Down.{down_found}
+use Rattle.telling.proofs.Tellings.{found_after}
 use Rattle.telling.proofs.ranges.furthest.Goals as goal
 
-pub loop-t-init : goal.loop-t-init
-loop-t-init c = let a = c.args in (omega arith, omega arith, seek_from (marked a.pairs.now) a.a a.top (omega arith))
-
-pub returns-then-has : goal.returns-then-has
-returns-then-has c =
-    let a = c.args in
-    let pair = pair_is a.pairs.now a.a c.loop-t.t c.loop-t-test.true (omega arith) ∙ sym c.has.ensures in
-    seek_hit (pairs_wide a.pairs.now) c.requires.1 c.loop-t.invariant.2 (pair ∙ c.if-has.true)
-
-pub loop-t-preserved : goal.loop-t-preserved
-loop-t-preserved c =
-    let a = c.args in
-    let pair = pair_is a.pairs.now a.a c.loop-t.t c.loop-t-test.true (omega arith) ∙ sym c.has.ensures in
-    let on = seek_on (pairs_wide a.pairs.now) c.requires.1 c.loop-t.invariant.2 (pair ∙ c.if-has.false) in
-    (omega arith, omega arith, on (omega arith))
-
 pub returns : goal.returns
-returns c = seek_end (pairs_wide c.args.pairs.now) c.requires.1 c.loop-t.invariant.2 c.loop-t-test.false
+returns c =
+    let t = c.args.pairs.now in
+    let a = c.args.a in
+    let found = down_found _ (λ k. filled t a k ≡ true) (λ k. filled t a k ≡ false) (λ x q k. search (rules, tests))
+    (λ x q k. search (rules, tests)) c.rev.result _ c.find.result c.find.ensures.ran in
+    let source = c.rev.ensures.source in
+    found_after t c.requires.0 c.requires.1 (ap (λ r. r.start) source) (ap (λ r. r.end) source)
+    c.find.result found c.unwrap_or.ensures
