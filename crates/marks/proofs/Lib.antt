@@ -7,7 +7,7 @@ mod Sums
 -- a wedge by its areas: whether it holds the mark, and where the mark lands by it
 mod Wedges
 -- the wedges of a piece, and the pieces of an answer, one after another
-mod Pieces
+mod Fans
 mod Answers
 -- the number of a pair whose mark is out of range
 mod Numbers

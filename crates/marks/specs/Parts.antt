@@ -1,5 +1,5 @@
 -- What the private functions promise and ask.
-use Rattle.std.specs.Prelude.{Option, Some, None, ◌≡◌, List, [], ◌∷◌, ◌++◌, ℕ, suc, ◌+◌, ◌≤◌, ◌<◌, ℤ, pos, nat_abs, ◌+ℤ◌, ◌*ℤ◌, length, get_or, take, drop, ◌<ℤ◌}
+use Rattle.std.specs.Prelude.{Option, Some, None, ◌≡◌, List, [], ◌∷◌, ◌++◌, ℕ, ◌+◌, ◌≤◌, ◌<◌, ℤ, pos, nat_abs, ◌+ℤ◌, ◌*ℤ◌, length, get_or, take, drop, ◌<ℤ◌}
 use Rattle.limits.specs.Limits.{furthest}
 use Rattle.outline.specs.Drawing.{Point, corner, corners}
 use Rattle.rules.specs.Lists.{In}
@@ -12,6 +12,7 @@ use Rattle.marks.specs.Lands.{area, Holds, LandsBy, Lands}
 use Rattle.marks.specs.Areas.{Adds}
 use Rattle.marks.specs.Carry.{MarkInRange}
 use Rattle.marks.specs.declared.Place.{Place}
+use Rattle.marks.specs.declared.pieces.Wedges.{Wedges}
 use Rattle.marks.specs.declared.sizes.Weights.{Weights}
 use Rattle.marks.specs.declared.sizes.Coordinates.{Coordinates}
 use Rattle.marks.specs.declared.wedge.Triangle.{Triangle}
@@ -83,12 +84,19 @@ pub record Piece (n : ℕ) (L : List ℕ) : Type 0 where
   pub enough : 3 ≤ length L
   pub below : (i : ℕ) → 1 ≤ i → i < length L → get_or L i 0 < n
 
--- the wedges of the piece L, and the corner that follows its place t
+-- the wedges of the piece L
 abbrev pub piece_fan : List ℕ → List Wedge
 piece_fan L = fan (get_or L 1 0) (get_or L 2 0) (drop 2 L)
 
-abbrev pub follow : List ℕ → ℕ → ℕ
-follow L t = following (get_or L 2 0) (drop (suc t) L)
+-- they are still to come, all of them; and a call of `next` gives the first
+abbrev pub IsFan : List ℕ → Wedges → Type 0
+IsFan L s = (s.centre ≡ get_or L 1 0) × (s.first ≡ get_or L 2 0) × (s.corners.now ≡ drop 2 L)
+
+abbrev pub Gives : Wedges → Option numbers.Wedge → Wedges → Type 0
+Gives s None t = s.corners.now ≡ []
+Gives s (Some w) t =
+    (s.corners.now ≡ w.from ∷ t.corners.now) × (w.centre ≡ s.centre) × (w.to ≡ following s.first t.corners.now)
+    × (t.centre ≡ s.centre) × (t.first ≡ s.first)
 
 -- the bytes of pieces of n corners, with any centres
 abbrev pub Spells : ℕ → List (List ℕ) → List ℕ → Type 0

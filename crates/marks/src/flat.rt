@@ -1,9 +1,9 @@
 // The call as C takes it: what comes back is a flat struct, by value.
-ghost use Rattle.std.specs.Prelude.{◌≡◌, None};
+ghost use Rattle.std.specs.Prelude.{◌≡◌};
 ghost use Rattle.marks.specs.Carry.{mark};
-ghost use Rattle.marks.specs.Flat.{flat, flat_of, CarriesFlat};
+ghost use Rattle.marks.specs.Flat.{flat, CarriesFlat};
 
-use crate::{Carried, Mark, Place, Refusal, carry};
+use crate::{Carried, Mark, Refusal, carry};
 
 // `lands` is 1 with a place and 0 without; without one the steps and rests are 0.
 #[repr(C)]
@@ -23,43 +23,21 @@ impl From<Result<Carried, Refusal>> for Flat {
     ghost from_gives = { λ carried f. f ≡ flat carried };
 
     fn from(carried: Result<Carried, Refusal>) -> Flat {
-        match carried {
-            Ok(
-                Carried {
-                    pieces,
-                    bytes,
-                    landing,
-                },
-            ) => match landing {
-                Some(Place { x, y }) => Flat {
-                    number: 0,
-                    lands: 1,
-                    pieces,
-                    bytes,
-                    x_step: x.step,
-                    x_rest: x.rest,
-                    y_step: y.step,
-                    y_rest: y.rest,
-                },
-                None => no_place(0, pieces, bytes),
-            },
-            Err(refusal) => no_place(u8::from(refusal), 0, 0),
+        let (number, carried) = match carried {
+            Ok(carried) => (0, carried),
+            Err(refusal) => (u8::from(refusal), Carried::default()),
+        };
+        let place = carried.landing.unwrap_or_default();
+        Flat {
+            number,
+            lands: u8::from(carried.landing.is_some()),
+            pieces: carried.pieces,
+            bytes: carried.bytes,
+            x_step: place.x.step,
+            x_rest: place.x.rest,
+            y_step: place.y.step,
+            y_rest: place.y.rest,
         }
-    }
-}
-
-fn no_place(number: u8, pieces: usize, bytes: usize) -> Flat
-    ensures { result ≡ flat_of number pieces bytes None }
-{
-    Flat {
-        number,
-        lands: 0,
-        pieces,
-        bytes,
-        x_step: 0,
-        x_rest: 0.0,
-        y_step: 0,
-        y_rest: 0.0,
     }
 }
 

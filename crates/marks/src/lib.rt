@@ -8,6 +8,7 @@ ghost use Rattle.marks.specs.declared.Refusal.TheVariants as is;
 
 pub mod flat;
 mod outside;
+mod pieces;
 mod sizes;
 mod steps;
 mod walk;
@@ -25,21 +26,21 @@ pub struct Mark {
 }
 
 // One axis of a place: whole steps, rounded down also below zero, and the rest of a step.
-#[derive(Clone, Copy, PartialEq, Debug)]
+#[derive(Clone, Copy, PartialEq, Debug, Default)]
 pub struct Axis {
     pub step: i64,
     pub rest: f64,
 }
 
 // Where a mark lands: across and up.
-#[derive(Clone, Copy, PartialEq, Debug)]
+#[derive(Clone, Copy, PartialEq, Debug, Default)]
 pub struct Place {
     pub x: Axis,
     pub y: Axis,
 }
 
 // What the pair's answer was, and where the mark lands: none, on no piece.
-#[derive(Clone, Copy, PartialEq, Debug)]
+#[derive(Clone, Copy, PartialEq, Debug, Default)]
 pub struct Carried {
     pub pieces: usize,
     pub bytes: usize,

@@ -5,7 +5,7 @@ use Rattle.outline.specs.Drawing.{corners}
 use Rattle.marks.specs.Lands.{Lands}
 use Rattle.marks.specs.Parts.{point, Piece, piece_fan, Told, Read}
 use Rattle.marks.proofs.Answers.{told_rest, PassedTo, passed_no_piece, part_piece, piece_hit, piece_missed, pieces_passed}
-use Rattle.marks.specs.declared.walk.Pieces.{Pieces}
+use Rattle.marks.specs.declared.pieces.Pieces.{Pieces}
 use Rattle.marks.proofs.walk.Poses.find.Goals as goal
 
 pub loop-piece-init : goal.loop-piece-init

@@ -1,50 +1,27 @@
--- `marks::walk::Poses::within` meets its contract: the wedges before place t are passed.
-use Rattle.std.proofs.Common.{ap, ◌∙◌, ℕ, suc, arith, List, get_or, drop, length, Bor}
-use Rattle.marks.specs.Wedges.{following}
-use Rattle.marks.proofs.Pieces.{next_corner, rest_of_piece, three_below, passed_none, passed_more, passed_hit, passed_all}
+-- `marks::walk::Poses::within` meets its contract: the wedges before those that are left are passed.
+use Rattle.std.proofs.Common.{subst, sym}
+use Rattle.outline.specs.Drawing.{corners}
+use Rattle.marks.specs.Parts.{point}
+use Rattle.marks.proofs.Fans.{PassedBy, passed_none, wedge_below, passed_more, passed_hit, passed_all}
 use Rattle.marks.proofs.walk.Poses.within.Goals as goal
 
-pub loop-t-init : goal.loop-t-init
-loop-t-init c = passed_none _ _ _ _ _ _
+pub loop-wedge-init : goal.loop-wedge-init
+loop-wedge-init c =
+    let s = c.args.self.now in
+    subst (PassedBy s.first.now s.second.now (point s.mark) (corners s.first.now) c.args.piece.now)
+    (sym c.into_iter-wedge-iterator.ensures.into_iter_gives)
+    (passed_none _ _ _ c.of-wedge-items.result c.requires c.of-wedge-items.ensures)
 
 pub land-requires : goal.land-requires
-land-requires c =
-    let L = c.args.piece.now in
-    let t = c.loop-t.t in
-    let all = rest_of_piece L in
-    three_below c.requires t (omega (arith, c.loop-t-test.true, ap length all)) c.from-centre.ensures
-    (c.from.ensures ∙ ap (λ (x : List ℕ). get_or x t 0) all)
-    (c.from-in-loop-t.ensures ∙ ap (λ (x : Bor ℕ). x.now) c.unwrap_or-to.ensures
-    ∙ next_corner _ t c.get.result _ c.get.ensures.lookup.3
-    ∙ ap (λ (x : List ℕ). following (get_or L 2 0) (drop (suc t) x)) all)
+land-requires c = wedge_below _ _ _ _ c.next.new.self _ c.loop-wedge.invariant c.in-Some.ensures.steps
 
-pub returns-in-Some : goal.returns-in-Some
-returns-in-Some c =
-    let L = c.args.piece.now in
-    let t = c.loop-t.t in
-    let all = rest_of_piece L in
-    passed_hit _ _ _ _ _ (drop 2 L) t (omega (arith, c.loop-t-test.true, ap length all)) c.loop-t.invariant
-    c.from-centre.ensures
-    (c.from.ensures ∙ ap (λ (x : List ℕ). get_or x t 0) all)
-    (c.from-in-loop-t.ensures ∙ ap (λ (x : Bor ℕ). x.now) c.unwrap_or-to.ensures
-    ∙ next_corner _ t c.get.result _ c.get.ensures.lookup.3
-    ∙ ap (λ (x : List ℕ). following (get_or L 2 0) (drop (suc t) x)) all)
-    c.in-Some.place c.in-Some.ensures
+pub returns-in-Some-land : goal.returns-in-Some-land
+returns-in-Some-land c =
+    passed_hit _ _ _ _ c.next.new.self _ c.loop-wedge.invariant c.in-Some.ensures.steps _ c.in-Some-land.ensures
 
-pub loop-t-preserved : goal.loop-t-preserved
-loop-t-preserved c =
-    let L = c.args.piece.now in
-    let t = c.loop-t.t in
-    let all = rest_of_piece L in
-    passed_more _ _ _ _ _ (drop 2 L) t (omega (arith, c.loop-t-test.true, ap length all)) c.loop-t.invariant
-    c.from-centre.ensures
-    (c.from.ensures ∙ ap (λ (x : List ℕ). get_or x t 0) all)
-    (c.from-in-loop-t.ensures ∙ ap (λ (x : Bor ℕ). x.now) c.unwrap_or-to.ensures
-    ∙ next_corner _ t c.get.result _ c.get.ensures.lookup.3
-    ∙ ap (λ (x : List ℕ). following (get_or L 2 0) (drop (suc t) x)) all)
-    c.in_default.ensures
+pub loop-wedge-preserved : goal.loop-wedge-preserved
+loop-wedge-preserved c =
+    passed_more _ _ _ _ c.next.new.self _ c.loop-wedge.invariant c.in-Some.ensures.steps c.in_default.ensures
 
 pub returns : goal.returns
-returns c =
-    let all = rest_of_piece c.args.piece.now in
-    passed_all _ _ _ _ _ _ c.loop-t.t (omega (arith, c.loop-t-test.false, ap length all)) c.loop-t.invariant
+returns c = passed_all _ _ _ c.loop-wedge.invariant c.in-None.ensures.steps

@@ -1,9 +1,9 @@
--- `next` of `marks::walk::Pieces` meets its contract.
+-- `next` of `marks::pieces::Pieces` meets its contract.
 use Rattle.std.proofs.Common.{◌≡◌, sym, ap, ◌∙◌, subst, ℕ, ◌+◌, arith, length, drop}
 use Rattle.std.proofs.Math.ListN.{length-drop}
 use Rattle.marks.specs.Parts.{Told, taken}
 use Rattle.marks.proofs.Answers.{told_fits, told_rest, first_is}
-use Rattle.marks.proofs.walk.PiecesIterator.next.Goals as goal
+use Rattle.marks.proofs.pieces.PiecesIterator.next.Goals as goal
 
 pub split_at-requires : goal.split_at-requires
 split_at-requires c =
