@@ -3,7 +3,7 @@
 //     first, second  --search-->  pairs  --tell-->  room
 //     who sees whom               the cuts          01's bytes
 ghost use Rattle.std.specs.Prelude.{◌≡◌, Err, length};
-ghost use Rattle.limits.specs.Limits.{all_cells, Roomy};
+ghost use Rattle.limits.specs.Limits.{Roomy};
 ghost use Rattle.outline.specs.Tells.{Tells};
 ghost use Rattle.cutting.specs.Answer as cutting;
 ghost use Rattle.telling.specs.Answer as telling;
@@ -41,8 +41,7 @@ impl From<telling::Refusal> for Refusal {
 fn served(n: usize, first: &[u8], second: &[u8]) -> bool
     ensures { Tells result (Served n first.now second.now) }
 {
-    FEWEST_CORNERS <= n
-        && n <= MOST_CORNERS
+    (FEWEST_CORNERS..=MOST_CORNERS).contains(&n)
         && first.len() >= ALL_CELLS
         && second.len() >= ALL_CELLS
 }
@@ -52,10 +51,10 @@ fn search(
     n: usize,
     first: &[u8],
     second: &[u8],
-    pairs: &mut [u8],
+    pairs: &mut [u8; ALL_CELLS],
     room: &mut [u8],
 ) -> Result<Told, Refusal>
-    requires { Served n first.now second.now × Roomy n (length room.old) × (length pairs.old ≡ all_cells) }
+    requires { Served n first.now second.now × Roomy n (length room.old) }
     ensures { Cuts n first.now second.now room.old (result_of result room.new) }
 {
     cutting::search(n, first, second, pairs)?;

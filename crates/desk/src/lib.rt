@@ -2,8 +2,7 @@
 // sound pair is cut.
 #![tactic(auto)]
 
-ghost use Rattle.std.specs.Prelude.{◌≡◌, length};
-ghost use Rattle.limits.specs.Limits.{all_cells};
+ghost use Rattle.std.specs.Prelude.{◌≡◌};
 ghost use Rattle.desk.specs.Answer.{Answers, number, outcome_of, result_of, for_c};
 ghost use Rattle.desk.specs.declared.Refusal.TheVariants as is;
 
@@ -43,7 +42,7 @@ impl From<Refusal> for u8 {
     }
 }
 
-// The same for C: 01's number, the count of pieces and the count of bytes used. Numbers 1 to 9 come with no pieces and
+// What comes back, for C: 01's number, the count of pieces and the count of bytes used. Numbers 1 to 9 come with no pieces and
 // no bytes.
 #[repr(C)]
 #[derive(Clone, Copy)]
@@ -77,11 +76,10 @@ impl From<Result<Told, Refusal>> for Outcome {
 fn look(
     first: &[i32],
     second: &[i32],
-    sight1: &mut [u8],
-    sight2: &mut [u8],
+    sight1: &mut [u8; ALL_CELLS],
+    sight2: &mut [u8; ALL_CELLS],
     room: &mut [u8],
 ) -> Result<Told, Refusal>
-    requires { (length sight1.old ≡ all_cells) × (length sight2.old ≡ all_cells) }
     ensures { Answers first.now second.now room.old (result_of result room.new) }
 {
     let sound = pair::sight(first, second, sight1, sight2);

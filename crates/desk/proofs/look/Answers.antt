@@ -16,8 +16,8 @@ returns c =
     omega (arith, c.if-room-first.false) in
     let checks = c.sight-sound.ensures in
     let zero = ap result_number c.in_ok-sound.was in
-    let seen1 = first_seen checks.checks zero c.requires.0 checks.first_told in
-    let seen2 = second_seen checks.checks zero c.requires.1 checks.second_told in
+    let seen1 = first_seen checks.checks zero (omega arith) checks.first_told in
+    let seen2 = second_seen checks.checks zero (omega arith) checks.second_told in
     looked (sound checks.checks zero) _ _ _ _ seen1 seen2 _ _ roomy
-    (omega (arith, seen1.size, c.requires.0)) (omega (arith, seen2.size, c.requires.1))
+    (omega (arith, seen1.size)) (omega (arith, seen2.size))
     c.cut.ensures
