@@ -2,7 +2,7 @@
 use mathlib.Core.Path.{◌≡◌, refl, sym, ap, ap₂, subst, ◌∙◌}
 use mathlib.Core.Bool.{Bool, true, false, ◌&&◌, ◌||◌}
 use mathlib.Core.List.{List, [], ◌∷◌}
-use Prim.Native.Nat.{ℕ, zero, suc, ◌+◌, ◌-◌, ◌<◌, ◌≤◌, min}
+use Prim.Native.Nat.{ℕ, suc, ◌+◌, ◌-◌, ◌<◌, ◌≤◌, min}
 use native.Mathlib.Omega.{arith}
 use borrow.Author.Tests.{le-ltb, eq-eqb, ne_eqb}
 use lib.Dec.{ltb, eqb}
@@ -18,7 +18,7 @@ use Rattle.cutting.specs.Rows.{none}
 use Rattle.rules.specs.Columns.{costs}
 use Rattle.rules.specs.Choice.{Sought, rest_of, fits, less, better, pick_from, pick_of}
 use Rattle.rules.specs.Cells.{cell}
-use Rattle.cutting.specs.Tracing.{next_in, rest_in, Next, fits_in, LowestFit}
+use Rattle.cutting.specs.Tracing.{or_row, next_in, rest_in, Next, fits_in, LowestFit}
 use Rattle.cutting.proofs.Values.{clash}
 use Rattle.rules.specs.Seek.{sought_unique, step_is, next_left, next_right}
 use Rattle.rules.specs.Follow.{next_goes, rest_next, Goes}
@@ -162,27 +162,7 @@ module _ (val left col : ℕ → ℕ → ℕ) (right : ℕ → ℕ) (i j b x : �
   unfolding better
   better_unfit f = rw (f, better)
 
-  better_range : (¬ (b ≡ row) → b ≤ j) → x ≤ j → ¬ (better none one val left col right i j b x ≡ row) →
-      better none one val left col right i j b x ≤ j
-  unfolding better
-  better_range h xj =
-      go
-      (fits none one val left right i j x
-      && (eqb b row || less (rest_of none one val left col x j i) (rest_of none one val left col b j i)))
-    where
-      go : (p : Bool) → ¬ ((elim p [ true ↦ x | false ↦ b ]) ≡ row) → (elim p [ true ↦ x | false ↦ b ]) ≤ j
-      go true = λ z. xj
-      go false = h
-
 -- ---- the centres from i on
-pub pick_range : (val left col : ℕ → ℕ → ℕ) (right : ℕ → ℕ) (i j k : ℕ) → i + k ≤ j + 1 →
-    ¬ (pick_from none one val left col right i j k ≡ row) → pick_from none one val left col right i j k ≤ j
-unfolding pick_from
-pick_range val left col right i j zero h z = absurd (z refl)
-pick_range val left col right i j (suc k) h z =
-    better_range val left col right i j (pick_from none one val left col right i j k) (i + k)
-    (pick_range val left col right i j k (omega arith)) (omega arith) z
-
 pub pick_none : (val left col : ℕ → ℕ → ℕ) (right : ℕ → ℕ) (i j : ℕ) →
     row ≡ pick_from none one val left col right i j (i - i)
 unfolding pick_from
@@ -203,3 +183,8 @@ pub pick_end : (val left col : ℕ → ℕ → ℕ) (right : ℕ → ℕ) (i j :
 pick_end val left col right i j {x} ij e h =
     let k : x - i ≡ suc (j - i) = omega arith in
     e ∙ ap (pick_from none one val left col right i j) k
+
+-- a pick is none of row, but the one that is there
+pub pick_there : {j : ℕ} (o : Option ℕ) → or_row o ≤ j → j < row → unwrap_or o j ≡ or_row o
+pick_there None p jr = absurd (omega arith)
+pick_there (Some x) p jr = refl

@@ -1,5 +1,6 @@
 -- The cutting as cells, and what the functions that trace it promise each other.
-use Rattle.std.specs.Prelude.{◌≡◌, Bool, true, false, ◌⊎◌, List, ◌∷◌, ℕ, suc, ◌-◌, ◌<◌, ◌≤◌, T, length, get_or}
+use Rattle.std.specs.Prelude.{◌≡◌, Option, Bool, true, false, ◌⊎◌, List, ◌∷◌, ℕ, suc, ◌-◌, ◌<◌, ◌≤◌, T, length, get_or}
+use Rattle.std.specs.Option.{unwrap_or}
 use Rattle.limits.specs.Limits.{row, all_cells}
 use Rattle.rules.specs.Cutting.{Pairs, Valid, First, one}
 use Rattle.rules.specs.Centre.{HasCentre}
@@ -26,6 +27,10 @@ better_in val left right col i j b x = better none one (cell val) (cell left) (c
 
 abbrev pub pick_in : List ℕ → List ℕ → List ℕ → List ℕ → ℕ → ℕ → ℕ
 pick_in val left right col i j = pick_of none one (cell val) (cell left) (cell col) (cell right j) i j
+
+-- the best so far, where `rules` has row for none
+abbrev pub or_row : Option ℕ → ℕ
+or_row o = unwrap_or o row
 
 -- the centre x takes every corner from c on to j
 abbrev pub EveryIn : List ℕ → List ℕ → List ℕ → ℕ → ℕ → ℕ → Type 0

@@ -1,20 +1,19 @@
 // The piece that is taken on a line, found again from the finished tables. The tables left and right tell which
 // centres attain the line's value; the roads to a centre are in left, those from it on are filled again in its lane of
 // the column (`again`).
-ghost use Rattle.std.specs.Prelude.{◌≡◌, true, ◌+◌, ◌<◌, ◌≤◌};
+ghost use Rattle.std.specs.Prelude.{◌≡◌, true, ◌+◌, ◌<◌, ◌≤◌, IfSome};
 ghost use Rattle.limits.specs.Limits.{row};
 ghost use Rattle.rules.specs.Columns.{costs};
 ghost use Rattle.rules.specs.Choice.{Sought, less};
 ghost use Rattle.rules.specs.Cells.{cell};
 ghost use Rattle.cutting.specs.Rows.{none};
-ghost use Rattle.cutting.specs.Tracing.{Next, rest_in, fits_in, better_in, pick_in, LowestFit, EveryIn};
+ghost use Rattle.cutting.specs.Tracing.{Next, rest_in, fits_in, better_in, pick_in, or_row, LowestFit, EveryIn};
 ghost use Rattle.cutting.specs.Held.{LanesTo, ChosenBy};
 
 use crate::again::lane;
 use crate::cells::{Table, cell};
 use crate::lines::Tables;
 use crate::reading::Readings;
-use limits::ROW;
 
 impl Tables {
     // The corner after c on the road of x to t: the smallest whose step and rest cost what the road costs; t where no
@@ -84,29 +83,40 @@ impl Tables {
         (i..j).all(|c| self.next(col, x, j, c) == c + 1)
     }
 
-    // Of the centre best (ROW where there is none yet) and the centre x, the one with the earlier road.
-    fn choose(&self, col: &Table, i: usize, j: usize, best: usize, x: usize) -> usize
-        requires { (j < row) × (x ≤ j) × (i ≤ j) × (¬ (best ≡ row) → best ≤ j) }
-        ensures { result ≡ better_in self.now.val self.now.left self.now.right col.now i j best x }
+    // Of the best centre so far, where there is one, and the centre x, if it serves, the one with the earlier road.
+    fn choose(
+        &self,
+        col: &Table,
+        i: usize,
+        j: usize,
+        best: Option<usize>,
+        x: usize,
+    ) -> Option<usize>
+        requires in_range { (j < row) × (x ≤ j) × (i ≤ j) }
+        requires best { IfSome best (λ y. y ≤ j) }
+        ensures better { or_row result
+            ≡ better_in self.now.val self.now.left self.now.right col.now i j (or_row best) x }
+        ensures centre { IfSome result (λ y. y ≤ j) }
     {
         if !self.serves(i, j, x) {
             return best;
         }
-        if best == ROW {
-            return x;
+        match best {
+            Some(y) => if self.earlier(col, i, j, x, y) {
+                Some(x)
+            } else {
+                best
+            },
+            None => Some(x),
         }
-        if self.earlier(col, i, j, x, best) {
-            return x;
-        }
-        best
     }
 
     // The centre by which the piece on the line i j is taken, where the lanes of all that serve are there.
-    fn pick(&self, col: &Table, i: usize, j: usize) -> usize
+    fn pick(&self, col: &Table, i: usize, j: usize) -> Option<usize>
         requires { (i < j) × (j < row) }
-        ensures { result ≡ pick_in self.now.val self.now.left self.now.right col.now i j }
+        ensures { or_row result ≡ pick_in self.now.val self.now.left self.now.right col.now i j }
     {
-        let mut best = ROW;
+        let mut best = None;
         for x in i..j + 1 {
             best = self.choose(col, i, j, best, x);
         }
@@ -147,6 +157,6 @@ impl Tables {
             return x;
         }
         self.all_ready(readings, col, i, j, x + 1);
-        self.pick(col, i, j)
+        self.pick(col, i, j).unwrap_or(j)
     }
 }

@@ -1,5 +1,7 @@
 -- `Tables::centre`: the lowest takes every corner, or the pick is made of all.
 use native.Mathlib.Omega.{arith}
+use Rattle.cutting.proofs.Corners.{pick_there}
+use mathlib.Core.Path.{◌∙◌}
 use Rattle.cutting.proofs.Traced.{picked_as, lowest_picked}
 use Rattle.cutting.proofs.Relaid.{lanes_lowest}
 use Rattle.cutting.proofs.lines.Tables.centre.Goals as goal
@@ -18,4 +20,6 @@ all_ready-requires c = record {
 
 pub returns : goal.returns
 returns c =
-    λ pairs t h. picked_as t h _ c.all_ready.ensures c.pick.ensures
+    λ pairs t h.
+    let p = picked_as t h _ c.all_ready.ensures c.pick.ensures in
+    rw (c.unwrap_or.ensures ∙ pick_there c.pick.result p.0 c.requires.1) p
