@@ -7,11 +7,9 @@ mod packed;
 mod replay;
 mod report;
 
-ghost use Rattle.std.specs.Prelude.{◌≤◌, length};
-
 use packed::cases;
 use replay::tried;
-use report::{counted, lines, place, print_counts};
+use report::{lines, place, print_counts};
 use std::env::FillError;
 use std::rt::{Env, Files};
 use std::str;
@@ -24,11 +22,10 @@ const INPUT: usize = 524288;
 
 const EXPECTED: usize = 65536;
 
-// How long argument i is, which then stands at the buffer's front: 0 where there is none, or none that has room.
-fn argument(rt: &impl Env, i: usize, name: &mut [u8]) -> usize
-    ensures { result ≤ length name.new }
-{
-    rt.arg(i, name).unwrap_or(0)
+// Argument i, in the buffer: empty where there is none, or none that has room.
+fn argument<'a>(rt: &impl Env, i: usize, name: &'a mut [u8]) -> &'a [u8] {
+    let length = rt.arg(i, name).unwrap_or(0);
+    &name[..length]
 }
 
 // How many arguments there are, with the program's own name.
@@ -43,22 +40,19 @@ fn argument_count(rt: &impl Env) -> usize {
 }
 
 // The file that argument i names, as far as the buffer holds it.
-fn load(rt: &(impl Env + Files), i: usize, buf: &mut [u8]) -> usize
-    ensures { result ≤ length buf.new }
-{
+fn load<'a>(rt: &(impl Env + Files), i: usize, buffer: &'a mut [u8]) -> &'a [u8] {
     let mut name = [0u8; NAME];
-    let length = argument(rt, i, &mut name);
-    match str::from_utf8(&name[..length]) {
-        Ok(name) => loading::load(rt, name, buf),
+    let length = match str::from_utf8(argument(rt, i, &mut name)) {
+        Ok(name) => loading::load(rt, name, buffer),
         Err(_) => 0,
-    }
+    };
+    &buffer[..length]
 }
 
 // The name in argument i.
 fn title(rt: &(impl Env + Print), i: usize) {
     let mut name = [0u8; NAME];
-    let length = argument(rt, i, &mut name);
-    let _ = rt.write_all(&name[..length]);
+    let _ = rt.write_all(argument(rt, i, &mut name));
 }
 
 // The files that arguments i and j name: an input and its output.
@@ -69,37 +63,33 @@ fn named(
     input: &mut [u8],
     expected: &mut [u8],
 ) {
-    let n = load(rt, i, input);
-    let m = load(rt, j, expected);
-    let found = tried(&input[..n], &expected[..m]);
-    if !found.same {
+    let input = load(rt, i, input);
+    let expected = load(rt, j, expected);
+    let found = tried(input, expected);
+    if let Err(found) = found {
         title(rt, i);
-        place(rt, found, &expected[..m]);
+        place(rt, found, expected);
     }
     title(rt, i);
-    print_counts(rt, lines(&expected[..m]), "lines", counted(!found.same));
+    let count = lines(expected, expected.len());
+    print_counts(rt, count as u64, "lines", u64::from(found.is_err()));
 }
 
 // The cases that the file of argument i packs.
 fn many(rt: &(impl Env + Files + Print), i: usize, packed: &mut [u8]) {
-    let n = load(rt, i, packed);
-    let tally = cases(rt, &packed[..n]);
+    let tally = cases(rt, load(rt, i, packed));
     title(rt, i);
     print_counts(rt, tally.count, "inputs", tally.differences);
 }
 
 fn all(rt: &(impl Env + Files + Print), input: &mut [u8; INPUT], expected: &mut [u8; EXPECTED]) {
     let count = argument_count(rt);
-    if count == 0 {
-        return;
-    }
-    let mut i = 1;
-    while count - i > 1 {
+    for i in (1..count.saturating_sub(1)).step_by(2) {
         named(rt, i, i + 1, input, expected);
-        i += 2;
     }
-    if i < count {
-        many(rt, i, input);
+    // a last one that is left over
+    if count > 0 && count % 2 == 0 {
+        many(rt, count - 1, input);
     }
 }
 

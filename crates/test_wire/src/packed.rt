@@ -1,17 +1,17 @@
 // Many inputs in one file: for each the lengths of its name, of the input and of its output, three bytes each, high
 // byte first, and the bytes of all three.
-ghost use Rattle.std.specs.Prelude.{◌≡◌, ◌+◌, ◌<◌, ◌≤◌, length};
+ghost use Rattle.std.specs.Prelude.{◌<◌, ◌≤◌, length, IfSome};
 
 use crate::replay::tried;
-use crate::report::{counted, place};
+use crate::report::place;
 
-const HEAD: usize = 9;
-
-// Where the next case begins, and whether this one came out the same.
-#[derive(Drop)]
-struct Tried {
-    next: usize,
-    same: bool,
+#[derive(Clone, Copy)]
+struct Case<'a> {
+    name: &'a [u8],
+    input: &'a [u8],
+    expected: &'a [u8],
+    // what stands after it
+    rest: &'a [u8],
 }
 
 // How many cases there are, and how many came out otherwise.
@@ -21,64 +21,52 @@ pub struct Tally {
     pub differences: u64,
 }
 
-fn wide(b: u8) -> usize
-    ensures { result < 256 }
+// A length, and what stands after it.
+fn length(packed: &[u8]) -> Option<(usize, &[u8])>
+    ensures { IfSome result (λ r. length r.1.now < length packed.now) }
 {
-    b as usize
+    let (&[high, middle, low], rest) = packed.split_first_chunk::<3>()?;
+    Some((u32::from_be_bytes([0, high, middle, low]) as usize, rest))
 }
 
-fn number(packed: &[u8], at: usize) -> usize
-    requires { at + 3 ≤ length packed.now }
-    ensures { result < 16777216 }
+// The first case; none where it is cut off.
+fn first(packed: &[u8]) -> Option<Case<'_>>
+    ensures { IfSome result (λ r. length r.rest.now < length packed.now) }
 {
-    wide(packed[at]) * 65536 + wide(packed[at + 1]) * 256 + wide(packed[at + 2])
-}
-
-fn cut_off(rt: &impl Print, packed: &[u8]) -> Tried
-    ensures { result.next ≡ length packed.now }
-{
-    let _ = println!(rt; "a case is cut off");
-    Tried {
-        next: packed.len(),
-        same: false,
-    }
-}
-
-fn case(rt: &impl Print, packed: &[u8], at: usize) -> Tried
-    requires { at < length packed.now }
-    ensures { (at < result.next) × (result.next ≤ length packed.now) }
-{
-    if packed.len() - at < HEAD {
-        return cut_off(rt, packed);
-    }
-    let name = at + HEAD;
-    let start = name + number(packed, at);
-    let middle = start + number(packed, at + 3);
-    let end = middle + number(packed, at + 6);
-    if end > packed.len() {
-        return cut_off(rt, packed);
-    }
-    let found = tried(&packed[start..middle], &packed[middle..end]);
-    if !found.same {
-        let _ = rt.write_all(&packed[name..start]);
-        place(rt, found, &packed[middle..end]);
-    }
-    Tried {
-        next: end,
-        same: found.same,
-    }
+    let (name, rest) = length(packed)?;
+    let (input, rest) = length(rest)?;
+    let (expected, rest) = length(rest)?;
+    let (name, rest) = rest.split_at_checked(name)?;
+    let (input, rest) = rest.split_at_checked(input)?;
+    let (expected, rest) = rest.split_at_checked(expected)?;
+    Some(Case {
+        name,
+        input,
+        expected,
+        rest,
+    })
 }
 
 // Each case by itself.
 pub fn cases(rt: &impl Print, packed: &[u8]) -> Tally {
-    let mut differences = 0u64;
-    let mut count = 0u64;
-    let mut at = 0;
-    while at < packed.len() {
-        let c = case(rt, packed, at);
-        differences += counted(!c.same);
-        count += 1;
-        at = c.next;
+    let mut tally = Tally {
+        count: 0,
+        differences: 0,
+    };
+    let mut rest = packed;
+    while !rest.is_empty() {
+        tally.count += 1;
+        let Some(case) = first(rest) else {
+            let _ = println!(rt; "a case is cut off");
+            tally.differences += 1;
+            return tally;
+        };
+        if let Err(found) = tried(case.input, case.expected) {
+            tally.differences += 1;
+            let _ = rt.write_all(case.name);
+            place(rt, found, case.expected);
+        }
+        rest = case.rest;
     }
-    Tally { count, differences }
+    tally
 }

@@ -1,35 +1,16 @@
 // What was found, as text.
-ghost use Rattle.std.specs.Prelude.{◌≤◌, length};
-
 use crate::replay::Found;
 
-// How many lines end in `text`.
-pub fn lines(text: &[u8]) -> u64 {
-    let mut n = 0u64;
-    let mut i = 0;
-    while i < text.len() {
-        if text[i] == b'\n' {
-            n += 1;
-        }
-        i += 1;
-    }
-    n
+// How many lines end in the first `bytes` bytes of a text.
+pub fn lines(text: &[u8], bytes: usize) -> usize {
+    text.iter().take(bytes).filter(|&&b| b == b'\n').count()
 }
 
 // The line of the first byte that differs.
-pub fn place(rt: &impl Print, found: Found, expected: &[u8])
-    requires { found.bytes ≤ length expected.now }
-{
-    let bytes = found.bytes;
+pub fn place(rt: &impl Print, found: Found, expected: &[u8]) {
     let size = found.size;
-    let line = lines(&expected[..bytes]);
+    let line = lines(expected, found.bytes);
     let _ = println!(rt; " differs in chunks of {size} after line {line}");
-}
-
-pub fn counted(difference: bool) -> u64
-    ensures { result ≤ 1 }
-{
-    if difference { 1 } else { 0 }
 }
 
 // The line of a file: how many of what were compared, and how many of them differ.

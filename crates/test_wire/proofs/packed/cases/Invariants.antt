@@ -1,9 +1,10 @@
 -- Each case takes a byte at least.
-use Rattle.std.proofs.Common.{length, ◌-◌, ◌≤◌}
+use Rattle.std.proofs.Common.{length, ◌+◌, ◌≤◌}
 use Rattle.test_wire.proofs.packed.cases.Given as goal
 
-abbrev pub invariant-loop-at : goal.invariant-loop-at
-invariant-loop-at g l = (l.at ≤ length l.packed) × (l.count ≤ l.at) × (l.differences ≤ l.count)
+abbrev pub invariant-loop-rest : goal.invariant-loop-rest
+invariant-loop-rest g l =
+    (l.tally.count + length l.rest ≤ length l.packed) × (l.tally.differences ≤ l.tally.count)
 
-abbrev pub decreases-loop-at : goal.decreases-loop-at
-decreases-loop-at g l = length l.packed - l.at
+abbrev pub decreases-loop-rest : goal.decreases-loop-rest
+decreases-loop-rest g l = length l.rest

@@ -1,9 +1,0 @@
--- Two arguments are taken at a time.
-use Rattle.std.proofs.Common.{◌-◌, ◌≤◌}
-use Rattle.test_wire.proofs.all.Given as goal
-
-abbrev pub invariant-loop-i : goal.invariant-loop-i
-invariant-loop-i g l = l.i ≤ l.count
-
-abbrev pub decreases-loop-i : goal.decreases-loop-i
-decreases-loop-i g l = l.count - l.i
