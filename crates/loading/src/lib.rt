@@ -7,17 +7,17 @@ use std::fs;
 use std::io::Read;
 use std::rt::Files;
 
-// Reads until the buffer is full, the input ends or a read fails. How many bytes then stand at its front.
+// Reads until the buffer is full, the input ends or a read fails. How many bytes then stand at its front. A loop of its
+// own: std's `read_exact` does not say how many bytes a shorter input had, and `read_to_end` takes memory.
 fn read_full(input: &mut impl Read, buffer: &mut [u8]) -> usize
     ensures { result ≤ length buffer.new }
 {
     let mut done = 0;
     while done < buffer.len() {
-        let n = input.read(&mut buffer[done..]).unwrap_or(0);
-        if n == 0 {
-            return done;
+        match input.read(&mut buffer[done..]) {
+            Ok(0) | Err(_) => break,
+            Ok(n) => done += n,
         }
-        done += n;
     }
     done
 }

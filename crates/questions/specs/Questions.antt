@@ -9,14 +9,13 @@
 --     0                        on no piece
 --     k                        the number of the refusal
 --     ?                        the line was no question
-use Rattle.std.specs.Prelude.{◌≡◌, Bool, cond, ◌&&◌, List, [], ◌∷◌, ◌++◌, ℕ, zero, suc, ◌+◌, ◌/◌, ◌%◌, eqb, ltb, leb, ℤ, pos, negsuc, length, drop, replicate}
-use Rattle.std.proofs.Math.Option.{Option, none, some}
+use Rattle.std.specs.Prelude.{◌≡◌, Bool, cond, ◌&&◌, List, [], ◌∷◌, ◌++◌, ℕ, zero, suc, ◌+◌, ◌/◌, ◌%◌, eqb, ltb, leb, ℤ, pos, negsuc, length, replicate, Option, Some, None}
+use Rattle.std.specs.Option.{option_and_then}
 use Rattle.std.specs.Float.{binary64}
 use Rattle.std.specs.Float.Ieee.{to_bits}
 use Rattle.limits.specs.Limits.{most_numbers, room}
-use Rattle.recorded.specs.Decimals.{word_start, wholes_listed, whole_in}
-use Rattle.recorded.specs.Counted.{first_number, after_first, counted_wholes, told}
-use Rattle.recorded.specs.declared.counted.Counted.{Counted}
+use Rattle.recorded.specs.Decimals.{word_start, after, place, whole, whole_in, all_numbers}
+use Rattle.recorded.specs.Counted.{first_number, counted_wholes, list_end, told}
 use Rattle.marks.specs.Carry.{mark, CarriesMark, result_of}
 use Rattle.marks.specs.declared.Axis.{Axis}
 use Rattle.marks.specs.declared.Carried.{Carried}
@@ -37,36 +36,33 @@ numbers line at n = told (whole_in line at) n
 
 -- after the number that says so: two drawings, the mark, and no more words
 module _ (line : List ℕ) (at : ℕ) where
-  abbrev pub first_read : Counted
-  first_read = counted_wholes line at most_numbers
-
-  abbrev pub second_read : Counted
-  second_read = counted_wholes line first_read.next most_numbers
+  abbrev pub second_at : ℕ
+  second_at = list_end line at most_numbers
 
   abbrev pub mark_at : ℕ
-  mark_at = second_read.next
+  mark_at = list_end line second_at most_numbers
 
   abbrev pub ends : Bool
-  ends = leb (length line) (word_start line (wholes_listed line mark_at 2).next)
+  ends = leb (length line) (word_start line (place line mark_at 2))
 
-  abbrev pub is_mark : Bool
-  is_mark = first_read.good && (second_read.good && ((wholes_listed line mark_at 2).good && ends))
-
-  abbrev pub the_mark : Question
-  the_mark =
-      mark_asked (numbers line (after_first line at) first_read.count)
-      (numbers line (after_first line first_read.next) second_read.count)
-      (whole_in line mark_at 0) (whole_in line mark_at 1)
+  -- drawings of so many numbers each
+  abbrev pub the_mark : ℕ → ℕ → Question
+  the_mark a b =
+      mark_asked (numbers line (after line at) a) (numbers line (after line second_at) b) (whole_in line mark_at 0)
+      (whole_in line mark_at 1)
 
   abbrev pub mark_question : Option Question
-  mark_question = cond is_mark (some the_mark) none
+  mark_question =
+      option_and_then (λ a. option_and_then (λ b. cond (all_numbers whole line mark_at 2 && ends) (Some (the_mark a b))
+      None) (counted_wholes line second_at most_numbers)) (counted_wholes line at most_numbers)
 
 -- what the first number asks for
-abbrev pub asks : List ℕ → ℕ → ℕ → Option Question
-asks line kind at = cond (eqb kind 1) (mark_question line at) none
+abbrev pub asks : List ℕ → Option ℕ → ℕ → Option Question
+asks line None at = None
+asks line (Some kind) at = cond (eqb kind 1) (mark_question line at) None
 
 unfoldable pub question : List ℕ → Option Question
-question line = cond (ltb (length line) line_limit) (asks line (first_number line 0) (after_first line 0)) none
+question line = cond (ltb (length line) line_limit) (asks line (first_number line 0) (after line 0)) None
 
 -- ---- numbers as text, without zeros in front; no number of 64 bits has more than 20 digits
 abbrev pub spelt : ℕ → ℕ → List ℕ
@@ -102,13 +98,7 @@ pub record MarkTold (first second : List ℤ) (x y : ℤ) (w : List ℕ) : Type 
   pub carries : CarriesMark first second (mark x y) (replicate room 0) (result_of carried after) carried.landing
   pub is_line : w ≡ mark_line carried.number carried.landing
 
+-- `reply`
 abbrev pub Answers : Option Question → List ℕ → Type 0
-Answers (some (mark_asked first second x y)) w = MarkTold first second x y w
-Answers none w = w ≡ no_question
-
--- ---- `reply`: the answer stands at the front of the buffer, r bytes long, and the bytes after it keep their values
-pub record Replies (line before : List ℕ) (r : ℕ) (after : List ℕ) : Type 0 where
-  pub answer : List ℕ
-  pub answers : Answers (question line) answer
-  pub counted : r ≡ length answer
-  pub written : after ≡ answer ++ drop (length answer) before
+Answers (Some (mark_asked first second x y)) w = MarkTold first second x y w
+Answers None w = w ≡ no_question

@@ -1,61 +1,58 @@
--- `asked::read_mark` meets its contract: the question. Where a part of it is missing, the parts tell so at once.
-use mathlib.Core.Path.{◌≡◌, sym, ap, subst, ◌∙◌}
-use mathlib.Core.List.{List}
-use Prim.Native.Nat.{ℕ}
-use native.Mathlib.Omega.{arith}
-use borrow.Author.Tests.{not-false}
-use lib.IntN.{ℤ}
-use lib.ListN.{length}
-use mir.Facts.{to_z-of_z}
-use mir.Syntax.{w32}
-use mir.Val.{to_z, of_z, SFits}
+-- `asked::read_mark` meets its contract: each part is read where the one before it ends. Where a part is missing, the
+-- parts tell so at once.
+use Rattle.std.specs.Prelude.{pos, leb}
+use Rattle.std.specs.Int.{w32}
+use Rattle.std.proofs.Common.{rules, arith, ◌≡◌, refl, sym, ap, ap₂, ◌∙◌, Bor, List, ℕ, length, get_or, to_z-of_z, SFits}
 use Rattle.limits.specs.Limits.{most_numbers}
-use Rattle.recorded.specs.Decimals.{place, whole_in}
-use Rattle.recorded.specs.Counted.{counted_wholes}
+use Rattle.recorded.specs.Decimals.{after, place, word_start, whole, whole_in, all_tell}
+use Rattle.recorded.specs.Counted.{counted_wholes, list_end}
 use Rattle.recorded.specs.Told.{list_told, counted_is}
-use Rattle.recorded.specs.declared.counted.Counted.{Counted}
-use Rattle.recorded.proofs.Numbers.{whole_fits}
+use Rattle.questions.specs.Questions.{numbers, second_at, mark_at}
 use Rattle.questions.proofs.Reading.{is_asked}
 use Rattle.questions.proofs.asked.read_mark.Goals as goal
 
--- a coordinate of the mark, as the machine holds it
-held_is : (line : List ℕ) (at k : ℕ) (z : ℤ) → z ≡ whole_in line at k → to_z w32 (of_z w32 z) ≡ whole_in line at k
-held_is line at k z e = to_z-of_z (subst (SFits w32) (sym e) (whole_fits line (place line at k))) ∙ e
+-- how many, and where the text goes on, by the longest list
+count_is : (line text : List ℕ) (at p n : ℕ) {r : _} → text ≡ line → p ≡ at → n ≡ most_numbers →
+    counted_wholes text p n ≡ r → counted_wholes line at most_numbers ≡ r
+count_is line text at p n t e m q = sym (ap₂ (λ u k. counted_wholes u k n) t e ∙ ap (counted_wholes line at) m) ∙ q
 
-held_fits : (line : List ℕ) (at k : ℕ) (z : ℤ) → z ≡ whole_in line at k → SFits w32 (to_z w32 (of_z w32 z))
-held_fits line at k z e = subst (SFits w32) (sym (held_is line at k z e)) (whole_fits line (place line at k))
+end_is : (line text : List ℕ) (at p n q : ℕ) → text ≡ line → p ≡ at → n ≡ most_numbers → q ≡ list_end text p n →
+    q ≡ list_end line at most_numbers
+end_is line text at p n q t e m g = g ∙ ap₂ (λ u k. list_end u k n) t e ∙ ap (list_end line at) m
 
 pub returns : goal.returns
 returns c =
-    let line = c.args.line.now in
-    let first = c.args.first.now in
-    let second = c.args.second.now in
-    let a = c.read_list-a in
-    let b = c.read_list-b in
-    let m = c.read_wholes-m in
-    let first_is : a.result ≡ counted_wholes line c.args.at most_numbers =
-    a.ensures.value ∙ ap (counted_wholes line c.args.at) c.requires.0 in
-    let second_is : b.result ≡ counted_wholes line a.result.next most_numbers =
-    b.ensures.value ∙ ap (counted_wholes line a.result.next) c.requires.1 in
-    let first_told =
-    list_told line c.args.at first a.new.out a.ensures.holds a.result.count
-    (ap (λ (k : Counted). k.count) a.ensures.value ∙ counted_is line c.args.at (length first))
-    a.ensures.count_in_bounds in
-    let second_told =
-    list_told line a.result.next second b.new.out b.ensures.holds b.result.count
-    (ap (λ (k : Counted). k.count) b.ensures.value ∙ counted_is line a.result.next (length second))
-    b.ensures.count_in_bounds in
-    let x = m.ensures.holds.each 0 (omega arith) in
-    let y = m.ensures.holds.each 1 (omega arith) in
-    let asked =
-    is_asked line c.args.at _ _ _ first_is second_is m.ensures.value _ c.word_start.ensures
-    c.if-word_start-line.false
-    (not-false _ c.if-not-a.false) (not-false _ c.if-not-b.false) (not-false _ c.if-not-m.false)
-    _ _ _ _ first_told second_told
-    (held_is line b.result.next 0 _ x) (held_is line b.result.next 1 _ y) in (
-      asked,
-      omega (arith, a.ensures.count_in_bounds, a.ensures.holds.size),
-      omega (arith, b.ensures.count_in_bounds, b.ensures.holds.size),
-      held_fits line b.result.next 0 _ x,
-      held_fits line b.result.next 1 _ y,
+    let line = c.args.words.text.now in
+    let at = c.args.words.at in
+    let a = c.list.ensures in
+    let b = c.list-2.ensures in
+    let m = c.fill.ensures in
+    let text₁ : c.list.new.self.text.now ≡ line = ap (λ (t : Bor (List ℕ)). t.now) a.place.same_text in
+    let text₂ : c.list-2.new.self.text.now ≡ line = ap (λ (t : Bor (List ℕ)). t.now) b.place.same_text ∙ text₁ in
+    let text₃ : c.fill.new.self.text.now ≡ line = ap (λ (t : Bor (List ℕ)). t.now) m.place.same_text ∙ text₂ in
+    let room₁ : length c.args.first.now ≡ most_numbers = omega arith in
+    let room₂ : length c.args.second.now ≡ most_numbers = omega arith in
+    let at₁ : c.list.new.self.at ≡ second_at line at = a.place.place ∙ ap (list_end line at) room₁ in
+    let at₂ : c.list-2.new.self.at ≡ mark_at line at = end_is line _ _ _ _ _ text₁ at₁ room₂ b.place.place in
+    let at₃ : c.fill.new.self.at ≡ place line (mark_at line at) 2 =
+    m.place.place ∙ ap₂ (λ t p. place t p 2) text₂ at₂ in
+    let a_is = sym a.value ∙ c.in_ok-a.was in
+    let b_is = sym b.value ∙ c.in_ok-b.was in
+    let first =
+    list_told line at c.args.first.now c.list.new.out a.holds c.in_ok-a.a
+    (counted_is line at (length c.args.first.now) _ a_is) c.in_ok-a.ensures.bound in
+    let second =
+    list_told c.list.new.self.text.now c.list.new.self.at c.args.second.now c.list-2.new.out b.holds c.in_ok-b.b
+    (counted_is _ _ (length c.args.second.now) _ b_is) c.in_ok-b.ensures.bound
+    ∙ ap₂ (λ t p. numbers t (after t p) c.in_ok-b.b) text₁ at₁ in
+    let x_fits : SFits w32 (get_or c.fill.new.out 0 (pos 0)) = search rules in
+    let y_fits : SFits w32 (get_or c.fill.new.out 1 (pos 0)) = search rules in
+    let x = to_z-of_z x_fits ∙ m.holds.each 0 (omega arith) ∙ ap₂ (λ t p. whole_in t p 0) text₂ at₂ in
+    let y = to_z-of_z y_fits ∙ m.holds.each 1 (omega arith) ∙ ap₂ (λ t p. whole_in t p 1) text₂ at₂ in
+    let all = sym (m.value ∙ ap₂ (λ t p. all_tell whole t p 2) text₂ at₂) ∙ c.in_ok-fill.was in
+    let ends = sym (c.if-not-is_done.ensures.value ∙ ap₂ (λ t p. leb (length t) (word_start t p)) text₃ at₃) in (
+      is_asked line at c.in_ok-a.a c.in_ok-b.b _ _ _ _ (count_is line line at at _ refl refl room₁ a_is)
+          (count_is line _ _ _ _ text₁ at₁ room₂ b_is) all ends first second x y,
+      omega (arith, c.in_ok-a.ensures.bound, a.holds.size),
+      omega (arith, c.in_ok-b.ensures.bound, b.holds.size),
     )
