@@ -7,8 +7,8 @@ use std::fs;
 use std::io::Read;
 use std::rt::Files;
 
-// Reads until the buffer is full, the input ends or a read fails. How many bytes then stand at its front. A loop of its
-// own: std's `read_exact` does not say how many bytes a shorter input had, and `read_to_end` takes memory.
+// Reads until the buffer is full, the input ends or a read fails. How many bytes then stand at its front. It is a loop
+// of its own: std's `read_exact` does not say how many bytes a shorter input had, and `read_to_end` takes memory.
 fn read_full(input: &mut impl Read, buffer: &mut [u8]) -> usize
     ensures { result ≤ length buffer.new }
 {

@@ -6,7 +6,9 @@ use Rattle.questions.specs.declared.asked.Question.{Question as Asked}
 -- ---- a question, whose drawings stand in two buffers
 abbrev pub Means : Option Question → List ℤ → List ℤ → Option Asked → Type 0
 Means q f g (Some a) =
-    (q ≡ Some (mark_asked (take a.first f) (take a.second g) a.x a.y)) × (a.first ≤ length f) × (a.second ≤ length g)
+    (q ≡ Some (mark_asked (take a.first f) (take a.second g) a.mark.x a.mark.y))
+    × (a.first ≤ length f)
+    × (a.second ≤ length g)
 Means q f g None = q ≡ None
 
 abbrev pub IsMark : List ℕ → ℕ → List ℤ → List ℤ → Option Asked → Type 0

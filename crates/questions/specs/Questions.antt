@@ -9,18 +9,18 @@
 --     0                        on no piece
 --     k                        the number of the refusal
 --     ?                        the line was no question
-use Rattle.std.specs.Prelude.{◌≡◌, Bool, cond, ◌&&◌, List, [], ◌∷◌, ◌++◌, ℕ, zero, suc, ◌+◌, ◌/◌, ◌%◌, eqb, ltb, leb, ℤ, pos, negsuc, length, replicate, Option, Some, None}
+use Rattle.std.specs.Prelude.{Result, Ok, Err, ◌≡◌, Bool, cond, ◌&&◌, List, [], ◌∷◌, ◌++◌, ℕ, zero, suc, ◌+◌, ◌/◌, ◌%◌, eqb, ltb, leb, ℤ, pos, negsuc, length, replicate, Option, Some, None}
 use Rattle.std.specs.Option.{option_and_then}
 use Rattle.std.specs.Float.{binary64}
 use Rattle.std.specs.Float.Ieee.{to_bits}
 use Rattle.limits.specs.Limits.{most_numbers, room}
 use Rattle.recorded.specs.Decimals.{word_start, after, place, whole, whole_in, all_numbers}
 use Rattle.recorded.specs.Counted.{first_number, counted_wholes, list_end, told}
-use Rattle.marks.specs.Carry.{mark, CarriesMark, result_of}
+use Rattle.marks.specs.Carry.{mark, number, CarriesMark, result_of, landing_of}
 use Rattle.marks.specs.declared.Axis.{Axis}
 use Rattle.marks.specs.declared.Carried.{Carried}
-use Rattle.marks.specs.declared.Landing.{Landing}
-use Rattle.marks.specs.declared.Landing.TheVariants.{Place, OnNoPiece}
+use Rattle.marks.specs.declared.Place.{Place}
+use Rattle.marks.specs.declared.Refusal.{Refusal}
 
 -- ---- what a line asks
 pub data Question : Type 0 where
@@ -80,12 +80,20 @@ whole_text (negsuc n) = 45 ∷ natural_text (suc n)
 unfoldable pub axis_text : Axis → List ℕ
 axis_text a = 32 ∷ (whole_text a.step ++ 32 ∷ natural_text (to_bits binary64 a.rest))
 
-unfoldable pub landing_text : Landing → List ℕ
-landing_text (Place x y) = axis_text x ++ axis_text y
-landing_text OnNoPiece = []
+unfoldable pub landing_text : Option Place → List ℕ
+landing_text None = []
+landing_text (Some p) = axis_text p.x ++ axis_text p.y
 
-abbrev pub mark_line : ℕ → Landing → List ℕ
+abbrev pub mark_line : ℕ → Option Place → List ℕ
 mark_line number landing = natural_text number ++ (landing_text landing ++ 10 ∷ [])
+
+-- 0 where the pair gets its cutting
+abbrev pub number_of : Result Carried Refusal → ℕ
+number_of (Ok c) = 0
+number_of (Err refusal) = number refusal
+
+abbrev pub told_line : Result Carried Refusal → List ℕ
+told_line r = mark_line (number_of r) (landing_of r)
 
 -- a question mark
 abbrev pub no_question : List ℕ
@@ -93,10 +101,11 @@ no_question = 63 ∷ 10 ∷ []
 
 -- what `carry` gives with a room of 310 zeros, which is enough for every pair
 pub record MarkTold (first second : List ℤ) (x y : ℤ) (w : List ℕ) : Type 0 where
-  pub carried : Carried
+  pub carried : Result Carried Refusal
   pub after : List ℕ
-  pub carries : CarriesMark first second (mark x y) (replicate room 0) (result_of carried after) carried.landing
-  pub is_line : w ≡ mark_line carried.number carried.landing
+  pub carries :
+      CarriesMark first second (mark x y) (replicate room 0) (result_of carried after) (landing_of carried)
+  pub is_line : w ≡ told_line carried
 
 -- `reply`
 abbrev pub Answers : Option Question → List ℕ → Type 0

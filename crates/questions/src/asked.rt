@@ -2,6 +2,7 @@
 ghost use Rattle.questions.specs.Parts.{IsAsked, IsMark};
 
 use limits::MOST_NUMBERS;
+use marks::Mark;
 use recorded::words::Words;
 
 // A line of so many bytes is no question: whoever cuts an input into lines need not hold more.
@@ -15,8 +16,7 @@ const MARK: u32 = 1;
 pub struct Question {
     pub first: usize,
     pub second: usize,
-    pub x: i32,
-    pub y: i32,
+    pub mark: Mark,
 }
 
 // The rest of a question about a mark: two drawings, the mark, and no more words.
@@ -38,8 +38,7 @@ fn read_mark(
     Some(Question {
         first: a,
         second: b,
-        x,
-        y,
+        mark: Mark { x, y },
     })
 }
 

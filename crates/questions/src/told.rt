@@ -1,10 +1,10 @@
 // The line of an answer.
 ghost use Rattle.std.specs.Prelude.{◌≡◌, ◌+◌, ◌≤◌, ◌++◌, length};
-ghost use Rattle.questions.specs.Questions.{whole_text, axis_text, mark_line, no_question};
+ghost use Rattle.questions.specs.Questions.{whole_text, axis_text, landing_text, told_line, no_question};
 
 use arrayvec::ArrayString;
 use itoa::{Buffer, Integer};
-use marks::{Axis, Carried, Landing};
+use marks::{Axis, Carried, Place, Refusal};
 use recorded::floats::bits;
 
 // As long as any answer, and a little more.
@@ -38,14 +38,27 @@ fn push_axis(line: &mut Line, axis: Axis)
     push_number(line, bits(axis.rest));
 }
 
-pub fn told(carried: Carried) -> Line
-    ensures { result.bytes ≡ mark_line carried.number carried.landing }
+fn push_landing(line: &mut Line, landing: Option<Place>)
+    requires { length line.old.bytes + 86 ≤ 128 }
+    ensures text { line.new.bytes ≡ line.old.bytes ++ landing_text landing }
+    ensures room { length line.new.bytes ≤ length line.old.bytes + 86 }
+{
+    if let Some(place) = landing {
+        push_axis(line, place.x);
+        push_axis(line, place.y);
+    }
+}
+
+pub fn told(carried: Result<Carried, Refusal>) -> Line
+    ensures { result.bytes ≡ told_line carried }
 {
     let mut line = Line::new();
-    push_number(&mut line, u64::from(carried.number));
-    if let Landing::Place(x, y) = carried.landing {
-        push_axis(&mut line, x);
-        push_axis(&mut line, y);
+    match carried {
+        Ok(carried) => {
+            push_number(&mut line, 0u8);
+            push_landing(&mut line, carried.landing);
+        }
+        Err(refusal) => push_number(&mut line, u8::from(refusal)),
     }
     line.push_str("\n");
     line

@@ -36,5 +36,6 @@ returns c =
     let kind = kind_is _ line _ _ w.text w.place c.natural.ensures.value in
     let text : c.natural.new.self.text.now ≡ line = ap (λ (t : Bor (List ℕ)). t.now) goes.same_text ∙ w.text in
     let at : c.natural.new.self.at ≡ after line 0 = goes.place ∙ ap₂ after w.text w.place in
-    let asked = asks_mark line _ c.if-line-ge-LINE_LIMIT.false (sym kind ∙ c.in_ok-natural.was) c.if-branch-ne-MARK.false in
-    subst (λ q. Means q r.new.first r.new.second r.result) (ap₂ mark_question text at ∙ sym asked) r.ensures
+    let same =
+    asks_mark line _ c.if-line-ge-LINE_LIMIT.false (sym kind ∙ c.in_ok-natural.was) c.if-branch-ne-MARK.false in
+    subst (λ q. Means q r.new.first r.new.second r.result) (ap₂ mark_question text at ∙ sym same) r.ensures

@@ -7,4 +7,5 @@ pub returns-clause-text : goal.returns-clause-text
 returns-clause-text c =
     let step = c.args.step in
     let told = c.push_number.ensures.text in
-    rw (to_z-of_z c.ranges.step) at told ∙ ap (λ (w : List ℕ). c.args.line.now.bytes ++ w) (whole_spelt step c.ranges.step)
+    rw (to_z-of_z c.ranges.step) at told
+    ∙ ap (λ (w : List ℕ). c.args.line.now.bytes ++ w) (whole_spelt step c.ranges.step)
