@@ -2,8 +2,7 @@
 // side between itself and the other. So these pairs need no look.
 //
 //     i         k ---- m         the pair i, m: corner k lies between
-ghost use Rattle.std.specs.Prelude.{◌<◌, ◌≤◌, length};
-ghost use Rattle.limits.specs.Limits.{all_cells};
+ghost use Rattle.std.specs.Prelude.{◌<◌, ◌≤◌};
 ghost use Rattle.whole.specs.Masks.{Marks};
 ghost use Rattle.outline.specs.Drawing.{corners, Sound};
 ghost use Rattle.drawing.specs.Parts.{Limits};
@@ -15,11 +14,10 @@ use crate::marks::EachMark;
 use crate::masks::Known;
 use crate::seeing::{GRAZED, lies_on};
 use crate::table::put;
-use limits::MOST_CORNERS;
+use limits::{ALL_CELLS, MOST_CORNERS};
 
-pub fn beginnings(xy: &[i32], known: [Known; MOST_CORNERS], cells: &mut [u8])
-    requires limits { Limits xy.now × Sound xy.now × AllKnown xy.now (corners xy.now) known }
-    requires all_cells_in_bounds { all_cells ≤ length cells.old }
+pub fn beginnings(xy: &[i32], known: [Known; MOST_CORNERS], cells: &mut [u8; ALL_CELLS])
+    requires { Limits xy.now × Sound xy.now × AllKnown xy.now (corners xy.now) known }
     ensures { BeginningsAdded xy.now cells.old cells.new }
 {
     for i in 0..xy.len() / 2 {
@@ -28,8 +26,8 @@ pub fn beginnings(xy: &[i32], known: [Known; MOST_CORNERS], cells: &mut [u8])
     }
 }
 
-fn along_sides(xy: &[i32], cells: &mut [u8], i: usize, along: u64)
-    requires limits { Limits xy.now × Sound xy.now × (i < corners xy.now) × (all_cells ≤ length cells.old) }
+fn along_sides(xy: &[i32], cells: &mut [u8; ALL_CELLS], i: usize, along: u64)
+    requires limits { Limits xy.now × Sound xy.now × (i < corners xy.now) }
     requires marks { Marks (corners xy.now) along (Along xy.now i) }
     ensures { RowBegun xy.now i cells.old cells.new }
 {
@@ -39,8 +37,8 @@ fn along_sides(xy: &[i32], cells: &mut [u8], i: usize, along: u64)
 }
 
 // Corner i is on the line of side k.
-fn along_side(xy: &[i32], cells: &mut [u8], i: usize, k: usize)
-    requires limits { Limits xy.now × Sound xy.now × (i < corners xy.now) × (all_cells ≤ length cells.old) }
+fn along_side(xy: &[i32], cells: &mut [u8; ALL_CELLS], i: usize, k: usize)
+    requires limits { Limits xy.now × Sound xy.now × (i < corners xy.now) }
     requires k_bound { (k < corners xy.now) × Along xy.now i k }
     ensures { SideBegun xy.now i k cells.old cells.new }
 {

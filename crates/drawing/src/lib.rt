@@ -63,7 +63,7 @@ fn tell(xy: &[i32], cells: &mut [u8])
     requires { Sound xy.now }
     ensures { Told xy.now cells.old cells.new }
 {
-    if cells.len() >= ALL_CELLS {
-        table::fill(xy, cells);
+    if let Some(table) = cells.first_chunk_mut::<ALL_CELLS>() {
+        table::fill(xy, table);
     }
 }

@@ -1,8 +1,8 @@
 // The cells of sight. What each corner knows of the sides comes first. Then the pairs are told: neighbours; lines of
 // sight that begin with a side; and by a look those i < j in which i is inside the angle at j. Each fills two cells,
 // since sight is mutual. Where a third corner lies between, its number stands in the cell until the parts settle it.
-ghost use Rattle.std.specs.Prelude.{◌≡◌, ◌<◌, ◌≤◌, length};
-ghost use Rattle.limits.specs.Limits.{most_corners, all_cells};
+ghost use Rattle.std.specs.Prelude.{◌≡◌, ◌<◌, ◌≤◌};
+ghost use Rattle.limits.specs.Limits.{most_corners};
 ghost use Rattle.outline.specs.Drawing.{corners, Sound, Angle};
 ghost use Rattle.drawing.specs.Sight.{Seen};
 ghost use Rattle.drawing.specs.Parts.{Limits};
@@ -16,10 +16,10 @@ use crate::marks::EachMark;
 use crate::masks::{Known, learn};
 use crate::parting::settle;
 use crate::seeing::{SEEN, look};
-use limits::{MOST_CORNERS, ROW};
+use limits::{ALL_CELLS, MOST_CORNERS, ROW};
 
-pub fn fill(xy: &[i32], cells: &mut [u8])
-    requires { Limits xy.now × Sound xy.now × (all_cells ≤ length cells.old) }
+pub fn fill(xy: &[i32], cells: &mut [u8; ALL_CELLS])
+    requires { Limits xy.now × Sound xy.now }
     ensures { Seen xy.now cells.old cells.new }
 {
     let known = learn(xy);
@@ -31,8 +31,8 @@ pub fn fill(xy: &[i32], cells: &mut [u8])
 }
 
 // No corner sees another yet.
-fn blank(xy: &[i32], cells: &mut [u8])
-    requires { Limits xy.now × (all_cells ≤ length cells.old) }
+fn blank(xy: &[i32], cells: &mut [u8; ALL_CELLS])
+    requires { Limits xy.now }
     ensures { Marked xy.now None cells.old cells.new }
 {
     let n = xy.len() / 2;
@@ -41,8 +41,8 @@ fn blank(xy: &[i32], cells: &mut [u8])
     }
 }
 
-fn blank_row(cells: &mut [u8], i: usize, n: usize)
-    requires { (all_cells ≤ length cells.old) × (i < most_corners) × (n ≤ most_corners) }
+fn blank_row(cells: &mut [u8; ALL_CELLS], i: usize, n: usize)
+    requires { (i < most_corners) × (n ≤ most_corners) }
     ensures { RowBlank i n cells.old cells.new }
 {
     for j in 0..n {
@@ -51,8 +51,8 @@ fn blank_row(cells: &mut [u8], i: usize, n: usize)
 }
 
 // Each corner sees itself and its neighbours.
-fn neighbours(xy: &[i32], cells: &mut [u8])
-    requires { Limits xy.now × (all_cells ≤ length cells.old) }
+fn neighbours(xy: &[i32], cells: &mut [u8; ALL_CELLS])
+    requires { Limits xy.now }
     ensures { NeighboursAdded xy.now cells.old cells.new }
 {
     for i in 0..xy.len() / 2 {
@@ -63,9 +63,8 @@ fn neighbours(xy: &[i32], cells: &mut [u8])
 }
 
 // Of each corner i, the pairs with those after it that have i inside the angle.
-fn rows(xy: &[i32], known: [Known; MOST_CORNERS], cells: &mut [u8])
-    requires limits { Limits xy.now × Sound xy.now × AllKnown xy.now (corners xy.now) known }
-    requires all_cells_in_bounds { all_cells ≤ length cells.old }
+fn rows(xy: &[i32], known: [Known; MOST_CORNERS], cells: &mut [u8; ALL_CELLS])
+    requires { Limits xy.now × Sound xy.now × AllKnown xy.now (corners xy.now) known }
     ensures { RowsAdded xy.now cells.old cells.new }
 {
     let n = xy.len() / 2;
@@ -81,8 +80,8 @@ fn rows(xy: &[i32], known: [Known; MOST_CORNERS], cells: &mut [u8])
 }
 
 // A pair of which the look tells something is written; the others are 0 or told already.
-fn decide(xy: &[i32], cells: &mut [u8], i: usize, a: Known, j: usize, b: Known)
-    requires limits { Limits xy.now × Sound xy.now × (all_cells ≤ length cells.old) }
+fn decide(xy: &[i32], cells: &mut [u8; ALL_CELLS], i: usize, a: Known, j: usize, b: Known)
+    requires limits { Limits xy.now × Sound xy.now }
     requires i_bound { (i < corners xy.now) × (j < corners xy.now) × Angle xy.now j i }
     requires knows { Knows xy.now i a × Knows xy.now j b }
     ensures { Decided xy.now i j cells.old cells.new }
@@ -93,8 +92,8 @@ fn decide(xy: &[i32], cells: &mut [u8], i: usize, a: Known, j: usize, b: Known)
     }
 }
 
-pub fn put(cells: &mut [u8], i: usize, j: usize, v: u8)
-    requires { (all_cells ≤ length cells.old) × (i < most_corners) × (j < most_corners) }
+pub fn put(cells: &mut [u8; ALL_CELLS], i: usize, j: usize, v: u8)
+    requires { (i < most_corners) × (j < most_corners) }
     ensures { cells.new ≡ both cells.old i j v }
 {
     cells[i * ROW + j] = v;

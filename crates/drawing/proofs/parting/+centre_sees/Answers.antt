@@ -10,19 +10,19 @@ pub centre_sees-first-requires : goal.centre_sees-first-requires
 centre_sees-first-requires t c =
     let h = c.requires.limits in
     let k = c.requires.i_bound in
-    let g = grazed_by c.args.cells.now k.0 k.1 h.3 c.if-told-lt-GRAZED.false in
+    let g = grazed_by c.args.cells.now k.0 k.1 h.2 c.if-told-lt-GRAZED.false in
     let less = first_shorter c.args.xy.now h.1.simple c.args.i c.args.j _ k.0 k.1 g in
-    (rw c.decreases at less, ((h.0, h.1, h.2, h.3), (k.0, g.below)))
+    (rw c.decreases at less, ((h.0, h.1, h.2), (k.0, g.below)))
 
 pub centre_sees-second-requires : goal.centre_sees-second-requires
 centre_sees-second-requires t c =
     let h = c.requires.limits in
     let k = c.requires.i_bound in
-    let g = grazed_by c.args.cells.now k.0 k.1 h.3 c.if-told-lt-GRAZED.false in
+    let g = grazed_by c.args.cells.now k.0 k.1 h.2 c.if-told-lt-GRAZED.false in
     let less = second_shorter c.args.xy.now h.1.simple c.args.i c.args.j _ k.0 k.1 g in
     let first = c.centre_sees-first.ensures.settling in (
       rw c.decreases at less,
-      ((h.0, h.1, omega (arith, h.2, first.size), first.coded), (g.below, k.1)),
+      ((h.0, h.1, first.coded), (g.below, k.1)),
     )
 
 pub returns : goal.returns
@@ -30,9 +30,9 @@ returns t c =
     let s = c.args in
     let h = c.requires.limits in
     let k = c.requires.i_bound in
-    let g = grazed_by s.cells.now k.0 k.1 h.3 c.if-told-lt-GRAZED.false in
+    let g = grazed_by s.cells.now k.0 k.1 h.2 c.if-told-lt-GRAZED.false in
     let first = c.centre_sees-first in
     let second = c.centre_sees-second in
-    let done = parts_settled h.1 k.0 k.1 g s.cells.now _ _ h.2 first.ensures second.ensures in
+    let done = parts_settled h.1 k.0 k.1 g s.cells.now _ _ (omega arith) first.ensures second.ensures in
     subst (λ w. PairSettled s.xy.now s.i s.j s.cells.now w (first.result && second.result))
     (sym c.put.ensures) done

@@ -8,30 +8,11 @@ use Rattle.drawing.proofs.table.blank.Goals as goal
 pub loop-i-init : goal.loop-i-init
 loop-i-init c = (omega arith, rows_none)
 
-pub blank_row-requires : goal.blank_row-requires
-blank_row-requires c =
-    let h = c.requires in
-    let few = h.0.shaped.few in (
-      omega (arith, h.1, c.loop-i.invariant.1.size),
-      omega (arith, few, c.loop-i-test.true),
-      omega (arith, few),
-    )
-
-pub overflow_step-i : goal.overflow_step-i
-overflow_step-i c =
-    omega (arith, c.requires.0.shaped.few, c.loop-i-test.true)
-
-pub loop-i-smaller : goal.loop-i-smaller
-loop-i-smaller c = omega (arith, c.loop-i-test.true)
-
 pub loop-i-preserved : goal.loop-i-preserved
 loop-i-preserved c =
-    let few = c.requires.0.shaped.few in
+    let few = c.requires.shaped.few in
     let l = c.loop-i-test.true in
     (omega (arith, l), rows_more few l c.loop-i.invariant.1 c.blank_row.ensures)
-
-pub shape_of-cells : goal.shape_of-cells
-shape_of-cells c = c.loop-i.invariant.1.size
 
 pub returns : goal.returns
 returns c =

@@ -14,7 +14,7 @@ settle-requires c =
     (c.neighbours.ensures.grown _ c.blank.ensures)) in
     let m = marked in
     let h = c.requires in
-    (h.0, h.1, omega (arith, h.2, m.size), rows_coded m)
+    (h.0, h.1, rows_coded m)
 
 pub returns : goal.returns
 returns c =

@@ -24,7 +24,7 @@ loop-i-init c = (omega arith, rows_first)
 faces : (c : After-faced) → FacedBy c.args.xy.now c.loop-i.i c.faced.result
 faces c =
     let bends = c.angles-bends.ensures in
-    let known = c.requires.limits.2 in
+    let known = c.requires.2 in
     faced_marks c.args.xy.now c.loop-i.i c.args.known c.faced.ensures known (known _ c.loop-i-test.true).left_of
     bends.two bends.one
 
@@ -35,7 +35,7 @@ here c f =
     let e : c.into_iter-k-iterator.result.0 ≡ c.faced.result / 2 ^ c.loop-i.i = search rules in
     let marked = next_marked c.loop-k.invariant.scan c.in-Some.ensures.steps in
     row_next c.args.xy.now c.loop-i.i c.faced.result c.in-Some.k f
-    (subst (λ x. bit x c.in-Some.k ≡ 1) e marked) c.requires.limits.0.shaped.few
+    (subst (λ x. bit x c.in-Some.k ≡ 1) e marked) c.requires.0.shaped.few
 
 pub loop-k-init : goal.loop-k-init
 loop-k-init c =
@@ -46,7 +46,7 @@ loop-k-init c =
       can_next = tt;
       is_finite = tt;
       scan = rw e (scan_start (omega (arith, shifted_below c.faced.result i, fits)));
-      grown = rw e (row_start c.requires.limits.1 c.loop-i-test.true (faces (goal.at.loop-k-init c).After-faced));
+      grown = rw e (row_start c.requires.1 c.loop-i-test.true (faces (goal.at.loop-k-init c).After-faced));
     }
 
 pub bounds-known-j : goal.bounds-known-j
@@ -61,7 +61,7 @@ pub decide-requires-clause-knows : goal.decide-requires-clause-knows
 decide-requires-clause-knows c =
     let at = goal.at.decide-requires-clause-knows c in
     let next = here at.In-Some (faces at.After-faced) in
-    let known = c.requires.limits.2 in
+    let known = c.requires.2 in
     (known _ c.loop-i-test.true, known _ next.0)
 
 pub loop-k-preserved : goal.loop-k-preserved
@@ -72,11 +72,11 @@ loop-k-preserved c =
     let n = c.in-Some.ensures.steps in
     let h = c.requires in
     let room : all_cells ≤ length c.loop-k.cells =
-    omega (arith, h.all_cells_in_bounds, c.loop-i.invariant.1.size, loop.grown.size) in
+    omega (arith, c.loop-i.invariant.1.size, loop.grown.size) in
     let d = c.args.xy.now in
     let i = c.loop-i.i in
     let is = ap (λ k. i + k) n.1 in
-    let told = row_decided h.limits.1 c.loop-i-test.true next.0 room loop.scan.fits n.0 is c.decide.ensures in
+    let told = row_decided h.1 c.loop-i-test.true next.0 room loop.scan.fits n.0 is c.decide.ensures in
     let done = RowDone d i in
     record {
       can_next = tt;
@@ -91,7 +91,7 @@ pub loop-i-preserved : goal.loop-i-preserved
 loop-i-preserved c =
     let l = c.loop-i-test.true in
     let over = c.in-None.ensures.steps.0 in
-    let row = grows_on c.loop-k.invariant.grown (row_end c.requires.limits.1 l over) in
+    let row = grows_on c.loop-k.invariant.grown (row_end c.requires.1 l over) in
     (omega (arith, l), grows_on c.loop-i.invariant.1 row)
 
 pub returns : goal.returns
