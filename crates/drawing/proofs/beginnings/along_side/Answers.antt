@@ -10,10 +10,6 @@ use Rattle.drawing.specs.Table.{SideBegun, both}
 use Rattle.outline.specs.Tells.{if_yes, if_no}
 use Rattle.drawing.proofs.beginnings.along_side.Goals as goal
 
-pub lies_on-requires : goal.lies_on-requires
-lies_on-requires c =
-    let h = c.requires in (h.limits.0, h.limits.2, c.next-m.ensures.below, h.k_bound.0)
-
 -- the side's other end by its number
 module _ (d : List ℤ) (i k m : ℕ) (is : m ≡ after d k) (before now : List ℕ) where
   first-end : LiesOn d k i m → now ≡ both before i m (4 + k) → SideBegun d i k before now

@@ -1,9 +1,6 @@
 -- `drawing::beginnings::beginnings` meets its contract: the corners before i are told.
 use mathlib.Core.Path.{◌≡◌}
-use Prim.Native.Nat.{◌≤◌, ◌<◌}
 use native.Mathlib.Omega.{arith}
-use lib.ListN.{length}
-use Rattle.limits.specs.Limits.{all_cells}
 use Rattle.outline.specs.Drawing.{corners}
 use Rattle.drawing.proofs.Growing.{grows_on}
 use Rattle.drawing.proofs.Begun.{begun_first, begun_all}

@@ -1,11 +1,8 @@
 -- `drawing::beginnings::beginnings` meets its contract: the corners before i are told.
-use Prim.Native.Nat.{◌-◌, ◌≤◌}
+use Prim.Native.Nat.{◌≤◌}
 use Rattle.outline.specs.Drawing.{corners, Beside}
 use Rattle.drawing.specs.Table.{Begun, Grows}
 use Rattle.drawing.proofs.beginnings.beginnings.Given as goal
 
 abbrev pub invariant-loop-i : goal.invariant-loop-i
 invariant-loop-i l = (l.i ≤ corners l.xy) × Grows l.xy (Beside l.xy) (Begun l.xy l.i) l.initial.cells l.cells
-
-abbrev pub decreases-loop-i : goal.decreases-loop-i
-decreases-loop-i l = corners l.xy - l.i

@@ -2,21 +2,9 @@
 use Prim.Native.Nat.{◌+◌, ◌*◌}
 use native.Mathlib.Omega.{arith}
 use mir.Syntax.{w64}
-use Rattle.whole.specs.Bounds.{fit, loc, bound}
+use Rattle.whole.specs.Bounds.{loc, bound}
 use Rattle.drawing.proofs.Machine.{Coordinate, coordinate}
 use Rattle.drawing.proofs.corners.corner.Goals as goal
-
-pub overflow_cast-result : goal.overflow_cast-result
-overflow_cast-result c =
-    let at_x : Coordinate c.args.xy.now (2 * c.args.i) =
-    coordinate c.args.xy.now (2 * c.args.i) c.requires.0.in_range (omega arith) c.result-1.given in
-    fit tt at_x
-
-pub overflow_cast-result-2 : goal.overflow_cast-result-2
-overflow_cast-result-2 c =
-    let at_y : Coordinate c.args.xy.now (2 * c.args.i + 1) =
-    coordinate c.args.xy.now (2 * c.args.i + 1) c.requires.0.in_range (omega arith) c.result-2-1.given in
-    fit tt at_y
 
 pub returns : goal.returns
 returns c =

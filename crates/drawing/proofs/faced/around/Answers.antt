@@ -9,12 +9,6 @@ use Rattle.drawing.specs.Known.{Around}
 use Rattle.drawing.specs.Faced.{turned_low, turned_high}
 use Rattle.drawing.proofs.faced.around.Goals as goal
 
-pub overflow_sub-top : goal.overflow_sub-top
-overflow_sub-top c = omega (arith, c.requires.0)
-
-pub overflow_shl-top : goal.overflow_shl-top
-overflow_shl-top c = omega (arith, c.requires.0, c.requires.1)
-
 -- the highest of n digits
 top : (n : ℕ) → 3 ≤ n → n ≤ 64 → 1 * 2 ^ (n - 1) % 2 ^ 64 ≡ 2 ^ (n - 1)
 top n h l = shifted_one (n - 1) (omega (arith, h, l))
@@ -25,26 +19,6 @@ twice n h l =
       subst (λ x. 2 ^ x ≡ 2 ^ (n - 1) * 2) e (pow-suc 2 (n - 1)),
       subst (λ x. x ≤ 2 ^ 64) (pow-suc 2 (n - 1)) (pow_mono {i = suc (n - 1)} {j = 64} (omega (arith, h, l))),
     )
-
-pub overflow_mul-result : goal.overflow_mul-result
-overflow_mul-result c =
-    let h = c.requires in
-    let n = c.args.n in
-    record { fits = omega (arith, c.if-m-top.true, top n h.0 h.1, (twice n h.0 h.1).1) }
-
-pub overflow_mul-result-else-m-top : goal.overflow_mul-result-else-m-top
-overflow_mul-result-else-m-top c =
-    let h = c.requires in
-    let n = c.args.n in
-    let t = twice n h.0 h.1 in
-    record { fits = omega (arith, c.if-m-top.false, h.2, top n h.0 h.1, t.0, t.1) }
-
-pub overflow_add-result : goal.overflow_add-result
-overflow_add-result c =
-    let h = c.requires in
-    let n = c.args.n in
-    let t = twice n h.0 h.1 in
-    record { fits = omega (arith, c.if-m-top.false, h.2, top n h.0 h.1, t.0, t.1) }
 
 pub returns-then-m-top : goal.returns-then-m-top
 returns-then-m-top c =

@@ -2,17 +2,9 @@
 use mathlib.Core.Path.{◌∙◌}
 use lib.IntN.{◌-ℤ◌}
 use mir.Syntax.{w64}
-use Rattle.whole.specs.Bounds.{fit, loc, less, bound}
+use Rattle.whole.specs.Bounds.{loc, less, bound}
 use Rattle.drawing.proofs.Machine.{the_x, the_y}
 use Rattle.drawing.proofs.masks.away.Goals as goal
-
-pub overflow_sub-result : goal.overflow_sub-result
-overflow_sub-result c =
-    fit tt (less (the_x c.corner-c.ensures.close) (the_x c.corner-a.ensures.close))
-
-pub overflow_sub-result-2 : goal.overflow_sub-result-2
-overflow_sub-result-2 c =
-    fit tt (less (the_y c.corner-c.ensures.close) (the_y c.corner-a.ensures.close))
 
 pub returns : goal.returns
 returns c =

@@ -4,14 +4,6 @@ use Rattle.whole.specs.Bounds.{fit, loc, less, times}
 use Rattle.drawing.proofs.Machine.{x_away, y_away}
 use Rattle.drawing.proofs.masks.cross.Goals as goal
 
-pub overflow_mul-result : goal.overflow_mul-result
-overflow_mul-result c = let h = c.requires in fit tt (times (x_away h.0) (y_away h.1))
-
-pub overflow_mul-result-2 : goal.overflow_mul-result-2
-overflow_mul-result-2 c =
-    let h = c.requires in
-    fit tt (times (y_away h.0) (x_away h.1))
-
 pub overflow_sub-result : goal.overflow_sub-result
 overflow_sub-result c =
     let h = c.requires in

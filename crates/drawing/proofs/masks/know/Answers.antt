@@ -3,11 +3,8 @@ use mathlib.Core.Path.{◌≡◌, refl, sym, ap, ◌∙◌, subst}
 use Prim.Native.Nat.{◌*◌, ◌%◌, ◌^◌, ◌≤◌, ◌<◌}
 use native.Mathlib.Omega.{arith}
 use lib.Bits.{bit_xor}
-use lib.Dec.{eqb}
 use lib.IntN.{pos}
 use lib.Signed.{lt_z}
-use mir.Syntax.{w64}
-use mir.Val.{of_z}
 use Rattle.whole.specs.Bits.{shifted_one}
 use Rattle.whole.specs.Masks.{Marks, made_none, made_more, made_room, made_all}
 use Rattle.outline.specs.Drawing.{corners}
@@ -16,11 +13,8 @@ use Rattle.outline.specs.Round.{next_prev, next_down}
 use Rattle.drawing.specs.Away.{Away, cross_turn, less, less_back}
 use Rattle.drawing.specs.Digits.{right_marks, along_marks}
 use Rattle.drawing.proofs.Machine.{back, by_lt, by_nought, held, x_away, y_away}
-use Rattle.drawing.proofs.Machine.{digit, either, either_small, digit_fits, double_fits}
+use Rattle.drawing.proofs.Machine.{digit, either, either_small}
 use Rattle.drawing.proofs.masks.know.Goals as goal
-
-pub away-end-requires : goal.away-end-requires
-away-end-requires c = let h = c.requires in (h.0, h.1, omega (arith, h.0.shaped.enough))
 
 -- the far end of the last side is the first corner
 pub loop-t-init : goal.loop-t-init
@@ -36,76 +30,6 @@ loop-t-init c =
           c.away-end.ensures,
     )
 
-pub overflow_add-k : goal.overflow_add-k
-overflow_add-k c = omega (arith, c.requires.0.shaped.few, c.loop-t-test.true)
-
-pub overflow_sub-k : goal.overflow_sub-k
-overflow_sub-k c = omega (arith, c.loop-t-test.true)
-
-pub away-start-requires : goal.away-start-requires
-away-start-requires c = let h = c.requires in (h.0, h.1, omega (arith, c.loop-t-test.true))
-
-pub cross-s-requires : goal.cross-s-requires
-cross-s-requires c = (c.away-start.ensures.far, (c.loop-t.invariant.6 c.loop-t-test.true).far)
-
-pub overflow_mul-all : goal.overflow_mul-all
-overflow_mul-all c =
-    let taken : c.loop-t.t < corners c.args.xy.now =
-    c.loop-t-test.true in
-    let few : corners c.args.xy.now ≤ 64 =
-    c.requires.0.shaped.few in
-    record { fits = double_fits taken few c.loop-t.invariant.1 }
-
-pub overflow_add-all : goal.overflow_add-all
-overflow_add-all c =
-    let taken : c.loop-t.t < corners c.args.xy.now =
-    c.loop-t-test.true in
-    let few : corners c.args.xy.now ≤ 64 =
-    c.requires.0.shaped.few in
-    record { fits = made_room {b = 1} taken c.loop-t.invariant.1 few (omega arith) }
-
-pub overflow_mul-left : goal.overflow_mul-left
-overflow_mul-left c =
-    let taken : c.loop-t.t < corners c.args.xy.now =
-    c.loop-t-test.true in
-    let few : corners c.args.xy.now ≤ 64 =
-    c.requires.0.shaped.few in
-    record { fits = double_fits taken few c.loop-t.invariant.2 }
-
-pub overflow_add-left : goal.overflow_add-left
-overflow_add-left c =
-    let taken : c.loop-t.t < corners c.args.xy.now =
-    c.loop-t-test.true in
-    let few : corners c.args.xy.now ≤ 64 =
-    c.requires.0.shaped.few in
-    let left = lt_z (pos 0) (back c.cross-s.result) in
-    record { fits = digit_fits taken few c.loop-t.invariant.2 left }
-
-pub overflow_mul-flat : goal.overflow_mul-flat
-overflow_mul-flat c =
-    let taken : c.loop-t.t < corners c.args.xy.now =
-    c.loop-t-test.true in
-    let few : corners c.args.xy.now ≤ 64 =
-    c.requires.0.shaped.few in
-    record { fits = double_fits taken few c.loop-t.invariant.3 }
-
-pub overflow_add-flat : goal.overflow_add-flat
-overflow_add-flat c =
-    let taken : c.loop-t.t < corners c.args.xy.now =
-    c.loop-t-test.true in
-    let few : corners c.args.xy.now ≤ 64 =
-    c.requires.0.shaped.few in
-    let flat = eqb (of_z w64 c.cross-s.result) 0 in
-    record { fits = digit_fits taken few c.loop-t.invariant.3 flat }
-
-pub overflow_mul-low : goal.overflow_mul-low
-overflow_mul-low c =
-    let taken : c.loop-t.t < corners c.args.xy.now =
-    c.loop-t-test.true in
-    let few : corners c.args.xy.now ≤ 64 =
-    c.requires.0.shaped.few in
-    record { fits = double_fits taken few c.loop-t.invariant.4 }
-
 pub overflow_add-low : goal.overflow_add-low
 overflow_add-low c =
     let taken : c.loop-t.t < corners c.args.xy.now =
@@ -116,14 +40,6 @@ overflow_add-low c =
     let end = lt_z (back c.loop-t.end.y) (pos 0) in
     record { fits = made_room taken c.loop-t.invariant.4 few (either_small start end) }
 
-pub overflow_mul-west : goal.overflow_mul-west
-overflow_mul-west c =
-    let taken : c.loop-t.t < corners c.args.xy.now =
-    c.loop-t-test.true in
-    let few : corners c.args.xy.now ≤ 64 =
-    c.requires.0.shaped.few in
-    record { fits = double_fits taken few c.loop-t.invariant.5 }
-
 pub overflow_add-west : goal.overflow_add-west
 overflow_add-west c =
     let taken : c.loop-t.t < corners c.args.xy.now =
@@ -133,20 +49,6 @@ overflow_add-west c =
     let start = lt_z (back c.away-start.result.x) (pos 0) in
     let end = lt_z (back c.loop-t.end.x) (pos 0) in
     record { fits = made_room taken c.loop-t.invariant.5 few (either_small start end) }
-
-pub overflow_step-t : goal.overflow_step-t
-overflow_step-t c =
-    let taken : c.loop-t.t < corners c.args.xy.now =
-    c.loop-t-test.true in
-    let few : corners c.args.xy.now ≤ 64 =
-    c.requires.0.shaped.few in
-    omega (arith, few, taken)
-
-pub loop-t-smaller : goal.loop-t-smaller
-loop-t-smaller c =
-    let taken : c.loop-t.t < corners c.args.xy.now =
-    c.loop-t-test.true in
-    omega (arith, taken)
 
 pub loop-t-preserved : goal.loop-t-preserved
 loop-t-preserved c =
@@ -168,23 +70,6 @@ loop-t-preserved c =
           (by_lt (x_away end.far).is refl (less end.is_x) (less_back end.is_x))),
       λ more. subst (λ m. Away d c.args.i m c.away-start.result) (sym (next_down (corners d) _ more)) start,
     )
-
-pub overflow_shl-before : goal.overflow_shl-before
-overflow_shl-before c =
-    let sides : (c.prev-h.result < 64) × (c.args.i < 64) =
-    let h = c.requires in
-    (omega (arith, c.prev-h.ensures.below, h.0.shaped.few), omega (arith, h.1, h.0.shaped.few)) in
-    sides.0
-
-pub overflow_shl-after : goal.overflow_shl-after
-overflow_shl-after c =
-    let sides : (c.prev-h.result < 64) × (c.args.i < 64) =
-    let h = c.requires in
-    (omega (arith, c.prev-h.ensures.below, h.0.shaped.few), omega (arith, h.1, h.0.shaped.few)) in
-    sides.1
-
-pub need-need-requires : goal.need-need-requires
-need-need-requires c = let h = c.requires in (h.0, h.1)
 
 pub returns : goal.returns
 returns c =

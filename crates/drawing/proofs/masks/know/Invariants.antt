@@ -13,6 +13,3 @@ invariant-loop-t l =
     × Made (corners l.xy) l.t l.flat (OnLine l.xy l.i)
     × Made (corners l.xy) l.t l.low (Low l.xy l.i) × Made (corners l.xy) l.t l.west (West l.xy l.i)
     × (l.t < corners l.xy → Away l.xy l.i (after l.xy (corners l.xy - (l.t + 1))) l.end)
-
-abbrev pub decreases-loop-t : goal.decreases-loop-t
-decreases-loop-t l = corners l.xy - l.t

@@ -10,15 +10,6 @@ use Rattle.drawing.proofs.masks.learn.Goals as goal
 pub loop-i-init : goal.loop-i-init
 loop-i-init c = (omega arith, λ j l. absurd (omega arith), refl)
 
-pub know-requires : goal.know-requires
-know-requires c = (c.requires, c.loop-i-test.true)
-
-pub offset_bounds-known-i : goal.offset_bounds-known-i
-offset_bounds-known-i c = omega (arith, c.requires.shaped.few, c.loop-i-test.true)
-
-pub bounds-known-i : goal.bounds-known-i
-bounds-known-i c = omega (arith, c.requires.shaped.few, c.loop-i-test.true)
-
 pub loop-i-preserved : goal.loop-i-preserved
 loop-i-preserved c =
     let loop = c.loop-i in

@@ -1,6 +1,6 @@
 -- `drawing::masks::learn` meets its contract: what the corners before i know is there.
 use mathlib.Core.Path.{◌≡◌}
-use Prim.Native.Nat.{◌-◌, ◌≤◌}
+use Prim.Native.Nat.{◌≤◌}
 use lib.ListN.{length}
 use Rattle.limits.specs.Limits.{most_corners}
 use Rattle.outline.specs.Drawing.{corners}
@@ -9,6 +9,3 @@ use Rattle.drawing.proofs.masks.learn.Given as goal
 
 abbrev pub invariant-loop-i : goal.invariant-loop-i
 invariant-loop-i l = (l.i ≤ corners l.xy) × AllKnown l.xy l.i l.known × (length l.known ≡ most_corners)
-
-abbrev pub decreases-loop-i : goal.decreases-loop-i
-decreases-loop-i l = corners l.xy - l.i

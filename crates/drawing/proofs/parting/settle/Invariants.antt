@@ -1,11 +1,8 @@
 -- `drawing::parting::settle` meets its contract: the rows before i are settled.
-use Prim.Native.Nat.{◌-◌, ◌≤◌}
+use Prim.Native.Nat.{◌≤◌}
 use Rattle.outline.specs.Drawing.{corners}
 use Rattle.drawing.specs.Table.{RowsSettled}
 use Rattle.drawing.proofs.parting.settle.Given as goal
 
 abbrev pub invariant-loop-i : goal.invariant-loop-i
 invariant-loop-i l = (l.i ≤ corners l.xy) × RowsSettled l.xy l.i l.initial.cells l.cells
-
-abbrev pub decreases-loop-i : goal.decreases-loop-i
-decreases-loop-i l = corners l.xy - l.i

@@ -1,11 +1,8 @@
 -- `drawing::parting::settle_row` meets its contract: the pairs with the corners before j are settled.
-use Prim.Native.Nat.{◌-◌, ◌≤◌}
+use Prim.Native.Nat.{◌≤◌}
 use Rattle.outline.specs.Drawing.{corners}
 use Rattle.drawing.specs.Table.{RowSettled}
 use Rattle.drawing.proofs.parting.settle_row.Given as goal
 
 abbrev pub invariant-loop-j : goal.invariant-loop-j
 invariant-loop-j l = (l.j ≤ corners l.xy) × RowSettled l.xy l.i l.j l.initial.cells l.cells
-
-abbrev pub decreases-loop-j : goal.decreases-loop-j
-decreases-loop-j l = corners l.xy - l.j

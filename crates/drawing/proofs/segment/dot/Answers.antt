@@ -1,23 +1,11 @@
 -- `drawing::segment::dot` meets its contract.
 use mir.Syntax.{w64}
-use Rattle.whole.specs.Bounds.{fit, loc, less, plus}
+use Rattle.whole.specs.Bounds.{fit, loc, plus}
 use Rattle.drawing.proofs.Machine.{the_x, the_y, product}
 use Rattle.drawing.proofs.segment.dot.Goals as goal
 
-pub overflow_sub-result : goal.overflow_sub-result
-overflow_sub-result c = let h = c.requires in fit tt (less (the_x h.1) (the_x h.0))
-
-pub overflow_sub-result-2 : goal.overflow_sub-result-2
-overflow_sub-result-2 c = let h = c.requires in fit tt (less (the_x h.2) (the_x h.0))
-
 pub overflow_mul-result : goal.overflow_mul-result
 overflow_mul-result c = let h = c.requires in fit tt (product (the_x h.1) (the_x h.0) (the_x h.2) (the_x h.0))
-
-pub overflow_sub-result-3 : goal.overflow_sub-result-3
-overflow_sub-result-3 c = let h = c.requires in fit tt (less (the_y h.1) (the_y h.0))
-
-pub overflow_sub-result-4 : goal.overflow_sub-result-4
-overflow_sub-result-4 c = let h = c.requires in fit tt (less (the_y h.2) (the_y h.0))
 
 pub overflow_mul-result-2 : goal.overflow_mul-result-2
 overflow_mul-result-2 c = let h = c.requires in fit tt (product (the_y h.1) (the_y h.0) (the_y h.2) (the_y h.0))

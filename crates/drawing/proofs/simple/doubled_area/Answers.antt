@@ -34,29 +34,6 @@ part_is ok h = record { is = held ok h.is; below = rw h.is at h.small }
 pub loop-k-init : goal.loop-k-init
 loop-k-init c = (omega arith, record { is = refl; below = omega arith })
 
-pub next-m-requires : goal.next-m-requires
-next-m-requires c = c.loop-k-test.true
-
-pub corner-a-requires : goal.corner-a-requires
-corner-a-requires c = (c.requires, c.loop-k-test.true)
-
-pub corner-b-requires : goal.corner-b-requires
-corner-b-requires c = (c.requires, c.next-m.ensures.below)
-
-pub side_area-sum-requires : goal.side_area-sum-requires
-side_area-sum-requires c = (c.corner-a.ensures.close, c.corner-b.ensures.close)
-
-pub overflow_add-sum : goal.overflow_add-sum
-overflow_add-sum c =
-    let more : Sum c.args.xy.now (c.loop-k.k + 1) (to_z w64 c.loop-k.sum-bits +ℤ back c.side_area-sum.result) =
-    let d = c.args.xy.now in
-    let k = c.loop-k.k in
-    let b_is = c.corner-b.ensures.is ∙ ap (corner d) c.next-m.ensures.is in
-    let part : SideArea (corner d k) (corner d (after d k)) c.side_area-sum.result =
-    rw (c.corner-a.ensures.is, b_is) at c.side_area-sum.ensures in
-    sum_more d k c.loop-k.invariant.1 (part_is c.side_area-sum.type_inv part) in
-    sum_fits (c.loop-k.k + 1) (omega arith) more
-
 pub loop-k-preserved : goal.loop-k-preserved
 loop-k-preserved c =
     let more : Sum c.args.xy.now (c.loop-k.k + 1) (to_z w64 c.loop-k.sum-bits +ℤ back c.side_area-sum.result) =

@@ -1,7 +1,7 @@
 -- `drawing::simple::doubled_area` meets its contract: the sum is that of the sides passed, and no larger than they
 -- allow.
 use mathlib.Core.List.{List}
-use Prim.Native.Nat.{ℕ, ◌*◌, ◌≤◌, ◌-◌}
+use Prim.Native.Nat.{ℕ, ◌*◌, ◌≤◌}
 use lib.IntN.{ℤ}
 use Rattle.whole.specs.Bounds.{Val}
 use Rattle.outline.specs.Drawing.{corners, area_to}
@@ -14,6 +14,3 @@ Summed d k s = Val s (area_to d k) (k * most_side_area)
 
 abbrev pub invariant-loop-k : goal.invariant-loop-k
 invariant-loop-k l = (l.k ≤ corners l.xy) × Summed l.xy l.k l.sum
-
-abbrev pub decreases-loop-k : goal.decreases-loop-k
-decreases-loop-k l = corners l.xy - l.k

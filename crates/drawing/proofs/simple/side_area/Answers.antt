@@ -4,14 +4,6 @@ use Rattle.whole.specs.Bounds.{fit, loc, less, times, bound}
 use Rattle.drawing.proofs.Machine.{the_x, the_y}
 use Rattle.drawing.proofs.simple.side_area.Goals as goal
 
-pub overflow_mul-result : goal.overflow_mul-result
-overflow_mul-result c = let h = c.requires in fit tt (times (the_x h.0) (the_y h.1))
-
-pub overflow_mul-result-2 : goal.overflow_mul-result-2
-overflow_mul-result-2 c =
-    let h = c.requires in
-    fit tt (times (the_x h.1) (the_y h.0))
-
 pub overflow_sub-result : goal.overflow_sub-result
 overflow_sub-result c =
     let h = c.requires in

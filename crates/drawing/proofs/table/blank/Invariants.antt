@@ -1,11 +1,8 @@
 -- `drawing::table::blank` meets its contract.
-use Prim.Native.Nat.{◌≤◌, ◌-◌}
+use Prim.Native.Nat.{◌≤◌}
 use Rattle.outline.specs.Drawing.{corners}
 use Rattle.drawing.proofs.Blank.{Blank}
 use Rattle.drawing.proofs.table.blank.Given as goal
 
 abbrev pub invariant-loop-i : goal.invariant-loop-i
 invariant-loop-i l = (l.i ≤ corners l.xy) × Blank (corners l.xy) l.i l.initial.cells l.cells
-
-abbrev pub decreases-loop-i : goal.decreases-loop-i
-decreases-loop-i l = corners l.xy - l.i

@@ -1,6 +1,5 @@
 -- `drawing::table::fill` meets its contract: blank, then the neighbours, lines that begin with a side, all rows; and
 -- third corners are settled.
-use native.Mathlib.Omega.{arith}
 use Rattle.outline.specs.Drawing.{corners}
 use Rattle.drawing.specs.Table.{Marked, RowsDone}
 use Rattle.drawing.proofs.Settling.{rows_coded, settled_seen}

@@ -1,5 +1,5 @@
 -- `drawing::table::neighbours` meets its contract.
-use Prim.Native.Nat.{◌≤◌, ◌-◌}
+use Prim.Native.Nat.{◌≤◌}
 use Rattle.outline.specs.Drawing.{corners}
 use Rattle.drawing.specs.Table.{None, Grows}
 use Rattle.drawing.proofs.Neighbours.{NextDone}
@@ -7,6 +7,3 @@ use Rattle.drawing.proofs.table.neighbours.Given as goal
 
 abbrev pub invariant-loop-i : goal.invariant-loop-i
 invariant-loop-i l = (l.i ≤ corners l.xy) × Grows l.xy None (NextDone l.xy l.i) l.initial.cells l.cells
-
-abbrev pub decreases-loop-i : goal.decreases-loop-i
-decreases-loop-i l = corners l.xy - l.i

@@ -1,7 +1,7 @@
 -- `drawing::table::rows` meets its contract: the pairs of the corners before i, with every corner, are decided; and of
 -- corner i those whose marks are passed.
 use mathlib.Core.Path.{◌≡◌}
-use Prim.Native.Nat.{◌-◌, ◌≤◌}
+use Prim.Native.Nat.{◌≤◌}
 use Rattle.whole.specs.Masks.{Scan}
 use Rattle.outline.specs.Drawing.{corners}
 use Rattle.drawing.specs.Table.{Early, RowsDone, Grows}
@@ -18,6 +18,3 @@ invariant-loop-k l = record {
 
 abbrev pub invariant-loop-i : goal.invariant-loop-i
 invariant-loop-i l = (l.i ≤ corners l.xy) × Grows l.xy (Early l.xy) (RowsDone l.xy l.i) l.initial.cells l.cells
-
-abbrev pub decreases-loop-i : goal.decreases-loop-i
-decreases-loop-i l = corners l.xy - l.i
