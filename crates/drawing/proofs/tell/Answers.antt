@@ -1,4 +1,5 @@
--- `drawing::tell` meets its contract: what is told in the front of the cells is told in the cells, where there is room.
+-- `drawing::tell` meets its contract: what is told in the front of the cells is told in the cells, where they have
+-- room.
 use mathlib.Core.Path.{◌≡◌, sym, ap, subst, ◌∙◌}
 use mathlib.Core.Logic.{by_cases}
 use mathlib.Core.List.{List, ◌++◌}
