@@ -1,14 +1,15 @@
 -- The reader as an automaton: what each byte does to a reader and to the two buffers, for every reader, every byte and
 -- all buffers. This is what the code's functions promise, step for step; `Whole` proves that it gives the events of
 -- 01.
-use Rattle.std.specs.Prelude.{Result, Ok, Err, Option, Some, None}
+use Rattle.std.specs.Prelude.{is_some, Result, Ok, Err, Option, Some, None}
 use Rattle.frames.specs.declared.Fault.{Fault}
-use Rattle.std.specs.Prelude.{ℕ, ◌+◌, ◌-◌, ◌*◌, ◌%◌, Bool, true, false, cond, not, List, [], ◌∷◌, length, take, ℤ, ◌==◌, nat_le, nat_lt, slice_set}
+use Rattle.std.specs.Prelude.{ℕ, ◌+◌, ◌-◌, ◌*◌, ◌%◌, Bool, true, cond, not, List, [], ◌∷◌, length, take, ℤ, ◌==◌, nat_le, nat_lt, slice_set}
 use Rattle.std.proofs.Math.Option.{none, some, get_or}
 use Rattle.std.proofs.Math.Option as Math
 use Rattle.limits.specs.Limits.{most_corners}
 use Rattle.frames.specs.Frames.{digit, line_feed, two's_complement, first_tag, second_tag, Event, pair, fault}
 use Rattle.frames.specs.declared.Line.{Line}
+use Rattle.frames.specs.declared.Line.TheVariants as line
 use Rattle.frames.specs.declared.Reader.{Reader}
 use Rattle.frames.specs.declared.Fed.{Fed}
 use Rattle.frames.specs.declared.Fed.TheVariants as fed
@@ -45,67 +46,71 @@ failed = Err (record {})
 
 -- ---- one line
 abbrev pub nothing_read : Line
-nothing_read = record { head = true; want = 0; at = 0; part = 0; value = 0 }
+nothing_read = line.Head 0 0
 
 -- a character that is no digit, where the buffer has so much room: the end of a whole frame, or a line of another form
 unfoldable pub closes : Line → ℕ → ℕ → Result After Fault
-closes l c room =
+closes (line.Head k v) c room = failed
+closes (line.Body want at k v) c room =
     cond (c == line_feed)
-    (cond l.head failed
-    (cond (l.part == 0)
-    (cond (l.at == l.want) (cond (nat_le l.at room) (Ok (after.Frame l.at)) failed) failed) failed))
+    (cond (k == 0)
+    (cond (at == want) (cond (nat_le at room) (Ok (after.Frame at)) failed) failed) failed)
     failed
 
--- a digit of the first two bytes, whose value is v with it: after the fourth they are the tag and the count of corners
-unfoldable pub begins : ℕ → Line → ℕ → Result After Fault
-begins tag l v =
-    cond (nat_lt l.part 3)
-    (Ok (after.On (record { head = true; want = l.want; at = l.at; part = l.part + 1; value = v })))
+-- a digit of the first two bytes after k of them, whose value is v with it: after the fourth they are the tag and the
+-- count of corners
+unfoldable pub begins : ℕ → ℕ → ℕ → Result After Fault
+begins tag k v =
+    cond (nat_lt k 3)
+    (Ok (after.On (line.Head (k + 1) v)))
     (cond (nat_lt v (tag * 256)) failed
     (cond (nat_le (v - tag * 256) most_corners)
-    (Ok (after.On (record { head = false; want = 2 * (v - tag * 256); at = 0; part = 0; value = 0 }))) failed))
+    (Ok (after.On (line.Body (2 * (v - tag * 256)) 0 0 0))) failed))
 
 -- a digit of the numbers: after the sixth there is a number more, and it stands in the buffer
-unfoldable pub goes_on : Line → List ℤ → ℕ → ReadGives
-goes_on l buffer v =
-    cond (nat_lt l.at l.want)
-    (cond (nat_lt l.part 5)
-    (Ok (after.On (record { head = false; want = l.want; at = l.at; part = l.part + 1; value = v })), buffer)
-    (cond (nat_lt l.at (length buffer)) (
-      Ok (after.On (record { head = false; want = l.want; at = l.at + 1; part = 0; value = 0 })),
-      slice_set buffer l.at (two's_complement v),
-    ) (failed, buffer))) (failed, buffer)
+unfoldable pub goes_on : ℕ → ℕ → ℕ → List ℤ → ℕ → ReadGives
+goes_on want at k buffer v =
+    cond (nat_lt at want)
+    (cond (nat_lt k 5)
+    (Ok (after.On (line.Body want at (k + 1) v)), buffer)
+    (cond (nat_lt at (length buffer))
+    (Ok (after.On (line.Body want (at + 1) 0 0)), slice_set buffer at (two's_complement v))
+    (failed, buffer))) (failed, buffer)
 
 -- the value of the digits with one more, d, cut off at six digits
-abbrev pub valued : Line → ℕ → ℕ
-valued l d = l.value % 0x100000 * 16 + d
+abbrev pub valued : ℕ → ℕ → ℕ
+valued v d = v % 0x100000 * 16 + d
+
+abbrev pub takes_digit : ℕ → Line → List ℤ → ℕ → ReadGives
+takes_digit tag (line.Head k v) buffer d = (begins tag k (valued v d), buffer)
+takes_digit tag (line.Body want at k v) buffer d = goes_on want at k buffer (valued v d)
 
 unfoldable pub reads : ℕ → Line → List ℤ → ℕ → ReadGives
 reads tag l buffer c =
-    cond (nat_lt (worth c) 16)
-    (cond l.head (begins tag l (valued l (worth c)), buffer) (goes_on l buffer (valued l (worth c))))
-    (closes l c (length buffer), buffer)
+    cond (nat_lt (worth c) 16) (takes_digit tag l buffer (worth c)) (closes l c (length buffer), buffer)
 
 -- ---- the two lines of a pair
 abbrev pub fresh : Reader
-fresh = record { second = false; numbers = 0; line = nothing_read }
+fresh = record { first = None; line = nothing_read }
 
+abbrev pub on_first : Result After Fault → List ℤ → List ℤ → TakeGives
+on_first (Ok (after.On l)) f g = (Ok (step.On (record { first = None; line = l })), f, g)
+on_first (Ok (after.Frame m)) f g = (Ok (step.On (record { first = Some m; line = nothing_read })), f, g)
+on_first (Err _) f g = (failed, f, g)
+
+-- n is the count of the first drawing's numbers
 abbrev pub on_second : ℕ → Result After Fault → List ℤ → List ℤ → TakeGives
-on_second n (Ok (after.On l)) f g = (Ok (step.On (record { second = true; numbers = n; line = l })), f, g)
+on_second n (Ok (after.On l)) f g = (Ok (step.On (record { first = Some n; line = l })), f, g)
 on_second n (Ok (after.Frame m)) f g = (cond (nat_le n (length f)) (Ok (step.Pair n m)) failed, f, g)
 on_second n (Err _) f g = (failed, f, g)
 
-abbrev pub on_first : ℕ → Result After Fault → List ℤ → List ℤ → TakeGives
-on_first n (Ok (after.On l)) f g = (Ok (step.On (record { second = false; numbers = n; line = l })), f, g)
-on_first n (Ok (after.Frame m)) f g = (Ok (step.On (record { second = true; numbers = m; line = nothing_read })), f, g)
-on_first n (Err _) f g = (failed, f, g)
-
 -- the byte c: f and g are the buffers of the first and the second drawing
+abbrev pub steps_in : Option ℕ → Line → List ℤ → List ℤ → ℕ → TakeGives
+steps_in None l f g c = on_first (reads first_tag l f c).0 (reads first_tag l f c).1 g
+steps_in (Some n) l f g c = on_second n (reads second_tag l g c).0 f (reads second_tag l g c).1
+
 unfoldable pub steps : Reader → List ℤ → List ℤ → ℕ → TakeGives
-steps r f g c =
-    cond r.second
-    (on_second r.numbers (reads second_tag r.line g c).0 f (reads second_tag r.line g c).1)
-    (on_first r.numbers (reads first_tag r.line f c).0 (reads first_tag r.line f c).1 g)
+steps r f g c = steps_in r.first r.line f g c
 
 -- ---- a part of an input, whose first byte has the number i
 abbrev pub fed_by : TakeGives → ℕ → (Reader → List ℤ → List ℤ → FeedGives) →
@@ -119,8 +124,12 @@ feeds r f g i [] = (Ok (fed.More r), f, g)
 feeds r f g i (c ∷ cs) = fed_by (steps r f g c) i (λ r' f' g'. feeds r' f' g' (i + 1) cs)
 
 -- ---- the end of an input
+abbrev pub inside : Line → Bool
+inside (line.Head k v) = not (k == 0)
+inside (line.Body want at k v) = true
+
 unfoldable pub ends_in_fault : Reader → Bool
-ends_in_fault r = cond r.second true (cond r.line.head (not (r.line.part == 0)) true)
+ends_in_fault r = cond (is_some r.first) true (inside r.line)
 
 -- ---- what an input tells from a reader on: `fault_at_end` at its end, and else byte for byte
 abbrev pub events_by : TakeGives → (Reader → List ℤ → List ℤ → List Event) → List Event

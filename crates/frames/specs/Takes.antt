@@ -1,16 +1,17 @@
 -- How much of an input a reader has taken for what it holds, and that it holds no more than its buffers do.
 -- A line of n numbers has 5 + 6 n characters with its line feed; the reader needs one byte at least for each.
 use Rattle.frames.specs.Reader.{ReadGives, TakeGives, FeedGives}
-use Rattle.std.specs.Prelude.{Result, Ok, Err}
+use Rattle.std.specs.Prelude.{Option, Some, None, Result, Ok, Err}
 use Rattle.frames.specs.declared.Fault.{Fault}
 use Rattle.std.specs.Prelude.{◌≡◌, ℕ, suc, ◌+◌, ◌-◌, ◌*◌, ◌<◌, ◌≤◌, Bool, true, false, cond, List, [], ◌∷◌, length, drop, ℤ, ◌==◌, nat_le, nat_lt, refl}
 use Rattle.std.proofs.Common.{arith, length-drop}
 use borrow.Author.Tests.{leb-true, ltb-false}
 use Rattle.limits.specs.Limits.{most_corners}
 use Rattle.frames.specs.Frames.{line_feed, first_tag, second_tag}
-use Rattle.frames.specs.Reader.{worth, closes, begins, goes_on, reads, valued}
-use Rattle.frames.specs.Reader.{on_first, on_second, steps, fed_by, feeds}
+use Rattle.frames.specs.Reader.{worth, closes, begins, goes_on, takes_digit, reads, valued}
+use Rattle.frames.specs.Reader.{on_first, on_second, steps_in, steps, fed_by, feeds}
 use Rattle.frames.specs.declared.Line.{Line}
+use Rattle.frames.specs.declared.Line.TheVariants as line
 use Rattle.frames.specs.declared.Reader.{Reader}
 use Rattle.frames.specs.declared.Fed.{Fed}
 use Rattle.frames.specs.declared.Fed.TheVariants as fed
@@ -20,10 +21,15 @@ use Rattle.frames.specs.declared.turn.Step.{Step}
 use Rattle.frames.specs.declared.turn.Step.TheVariants as step
 
 abbrev pub line_taken : Line → ℕ
-line_taken l = cond l.head l.part (4 + 6 * l.at + l.part)
+line_taken (line.Head k v) = k
+line_taken (line.Body want at k v) = 4 + 6 * at + k
+
+abbrev pub pair_taken : Option ℕ → ℕ
+pair_taken None = 0
+pair_taken (Some n) = 5 + 6 * n
 
 abbrev pub taken : Reader → ℕ
-taken r = cond r.second (5 + 6 * r.numbers) 0 + line_taken r.line
+taken r = pair_taken r.first + line_taken r.line
 
 -- a case for each way of a test
 by_test : {A : Type 0} (P : A → Type 0) {x y : A} (b : Bool) → (b ≡ true → P x) → (b ≡ false → P y) → P (cond b x y)
@@ -36,44 +42,51 @@ LineTakes l (Ok (after.On m), b) = line_taken m ≤ line_taken l + 1
 LineTakes l (Ok (after.Frame n), b) = (4 + 6 * n ≤ line_taken l) × (n ≤ length b)
 LineTakes l (Err _, b) = Unit {0}
 
-module _ (tag : ℕ) (l : Line) (buffer : List ℤ) (c : ℕ) where
-  closes_takes : LineTakes l (closes l c (length buffer), buffer)
+module _ (tag : ℕ) (buffer : List ℤ) (c : ℕ) where
+  closes_takes : (l : Line) → LineTakes l (closes l c (length buffer), buffer)
   unfolding closes
-  closes_takes =
-      by_test (λ (a : Result After Fault). LineTakes l (a, buffer)) (c == line_feed)
-      (λ _. by_test (λ (a : Result After Fault). LineTakes l (a, buffer)) l.head
-      (λ _. tt)
-      (λ h. by_test (λ (a : Result After Fault). LineTakes l (a, buffer)) (l.part == 0)
-      (λ p. by_test (λ (a : Result After Fault). LineTakes l (a, buffer)) (l.at == l.want)
-      (λ _. by_test (λ (a : Result After Fault). LineTakes l (a, buffer)) (nat_le l.at (length buffer))
-      (λ m. (rw h (omega arith), leb-true l.at (length buffer) m))
-      (λ _. tt)) (λ _. tt)) (λ _. tt))) (λ _. tt)
+  closes_takes (line.Head k v) = tt
+  closes_takes (line.Body want at k v) =
+      by_test ends (c == line_feed)
+      (λ _. by_test ends (k == 0)
+      (λ p. by_test ends (at == want)
+      (λ _. by_test ends (nat_le at (length buffer))
+      (λ m. (omega arith, leb-true at (length buffer) m))
+      (λ _. tt)) (λ _. tt)) (λ _. tt)) (λ _. tt)
+    where
+      ends : Result After Fault → Type 0
+      ends a = LineTakes (line.Body want at k v) (a, buffer)
 
-  begins_takes : (v : ℕ) → l.head ≡ true → LineTakes l (begins tag l v, buffer)
+  begins_takes : (k v w : ℕ) → LineTakes (line.Head k v) (begins tag k w, buffer)
   unfolding begins
-  begins_takes v h =
-      by_test (λ (a : Result After Fault). LineTakes l (a, buffer)) (nat_lt l.part 3)
-      (λ _. rw h (omega arith))
-      (λ p. by_test (λ (a : Result After Fault). LineTakes l (a, buffer)) (nat_lt v (tag * 256))
+  begins_takes k v w =
+      by_test ends (nat_lt k 3)
+      (λ _. omega arith)
+      (λ p. by_test ends (nat_lt w (tag * 256))
       (λ _. tt)
-      (λ _. by_test (λ (a : Result After Fault). LineTakes l (a, buffer)) (nat_le (v - tag * 256) most_corners)
-      (λ _. rw h (omega (arith, ltb-false l.part 3 p))) (λ _. tt)))
+      (λ _. by_test ends (nat_le (w - tag * 256) most_corners) (λ _. omega (arith, ltb-false k 3 p)) (λ _. tt)))
+    where
+      ends : Result After Fault → Type 0
+      ends a = LineTakes (line.Head k v) (a, buffer)
 
-  goes_on_takes : (v : ℕ) → l.head ≡ false → LineTakes l (goes_on l buffer v)
+  goes_on_takes : (want at k v w : ℕ) → LineTakes (line.Body want at k v) (goes_on want at k buffer w)
   unfolding goes_on
-  goes_on_takes v h =
-      by_test (LineTakes l) (nat_lt l.at l.want)
-      (λ _. by_test (LineTakes l) (nat_lt l.part 5)
-      (λ _. rw h (omega arith))
-      (λ p. by_test (LineTakes l) (nat_lt l.at (length buffer)) (λ _. rw h (omega (arith, ltb-false l.part 5 p)))
+  goes_on_takes want at k v w =
+      by_test (LineTakes (line.Body want at k v)) (nat_lt at want)
+      (λ _. by_test (LineTakes (line.Body want at k v)) (nat_lt k 5)
+      (λ _. omega arith)
+      (λ p. by_test (LineTakes (line.Body want at k v)) (nat_lt at (length buffer))
+      (λ _. omega (arith, ltb-false k 5 p))
       (λ _. tt))) (λ _. tt)
 
-  reads_takes : LineTakes l (reads tag l buffer c)
+  digit_takes : (l : Line) → LineTakes l (takes_digit tag l buffer (worth c))
+  digit_takes (line.Head k v) = begins_takes k v (valued v (worth c))
+  digit_takes (line.Body want at k v) = goes_on_takes want at k v (valued v (worth c))
+
+  reads_takes : (l : Line) → LineTakes l (reads tag l buffer c)
   unfolding reads
-  reads_takes =
-      by_test (LineTakes l) (nat_lt (worth c) 16)
-      (λ _. by_test (LineTakes l) l.head (begins_takes (valued l (worth c))) (goes_on_takes (valued l (worth c))))
-      (λ _. closes_takes)
+  reads_takes l =
+      by_test (LineTakes l) (nat_lt (worth c) 16) (λ _. digit_takes l) (λ _. closes_takes l)
 
 -- ---- the two lines of a pair
 abbrev Takes : ℕ → TakeGives → Type 0
@@ -81,32 +94,26 @@ Takes k (Ok (step.On r), f, g) = taken r ≤ k + 1
 Takes k (Ok (step.Pair n m), f, g) = (10 + 6 * n + 6 * m ≤ k + 1) × (n ≤ length f) × (m ≤ length g)
 Takes k (Err _, f, g) = Unit {0}
 
-taken_second : (r : Reader) → r.second ≡ true → taken r ≡ 5 + 6 * r.numbers + line_taken r.line
-taken_second r t = rw t
-
-taken_first : (r : Reader) → r.second ≡ false → taken r ≡ line_taken r.line
-taken_first r t = rw t (omega arith)
-
 steps_takes : (r : Reader) (f g : List ℤ) (c : ℕ) → Takes (taken r) (steps r f g c)
 unfolding steps
-steps_takes r f g c =
-    by_test (Takes (taken r)) r.second
-    (λ t. second t (reads second_tag r.line g c) (reads_takes second_tag r.line g c))
-    (λ t. first t (reads first_tag r.line f c) (reads_takes first_tag r.line f c))
+steps_takes r f g c = go r.first
   where
-    second : r.second ≡ true → (ab : ReadGives) → LineTakes r.line ab →
-        Takes (taken r) (on_second r.numbers ab.0 f ab.1)
-    second t (Ok (after.On m), b) h = omega (arith, taken_second r t, h)
-    second t (Ok (after.Frame m), b) h =
-        by_test (λ (s : Result Step Fault). Takes (taken r) (s, f, b)) (nat_le r.numbers (length f))
-        (λ fits. (omega (arith, taken_second r t, h.0), leb-true r.numbers (length f) fits, h.1)) (λ _. tt)
-    second t (Err _, b) h = tt
+    first : (ab : ReadGives) → LineTakes r.line ab → Takes (0 + line_taken r.line) (on_first ab.0 ab.1 g)
+    first (Ok (after.On m), b) h = omega (arith, h)
+    first (Ok (after.Frame m), b) h = omega (arith, h.0)
+    first (Err _, b) h = tt
 
-    first : r.second ≡ false → (ab : ReadGives) → LineTakes r.line ab →
-        Takes (taken r) (on_first r.numbers ab.0 ab.1 g)
-    first t (Ok (after.On m), b) h = omega (arith, taken_first r t, h)
-    first t (Ok (after.Frame m), b) h = omega (arith, taken_first r t, h.0)
-    first t (Err _, b) h = tt
+    second : (n : ℕ) (ab : ReadGives) → LineTakes r.line ab →
+        Takes (5 + 6 * n + line_taken r.line) (on_second n ab.0 f ab.1)
+    second n (Ok (after.On m), b) h = omega (arith, h)
+    second n (Ok (after.Frame m), b) h =
+        by_test (λ (s : Result Step Fault). Takes (5 + 6 * n + line_taken r.line) (s, f, b)) (nat_le n (length f))
+        (λ fits. (omega (arith, h.0), leb-true n (length f) fits, h.1)) (λ _. tt)
+    second n (Err _, b) h = tt
+
+    go : (o : Option ℕ) → Takes (pair_taken o + line_taken r.line) (steps_in o r.line f g c)
+    go None = first (reads first_tag r.line f c) (reads_takes first_tag f c r.line)
+    go (Some n) = second n (reads second_tag r.line g c) (reads_takes second_tag g c r.line)
 
 -- ---- a part of an input: k is what the reader had taken before byte i, e the number of the byte after the part
 abbrev FedTakes : ℕ → ℕ → ℕ → FeedGives → Type 0

@@ -2,8 +2,8 @@
 -- By induction over the input, with `pre` the characters of the line that is being read: what is still to come belongs
 -- behind them.
 use Rattle.frames.specs.Reader.{ReadGives}
-use Rattle.std.specs.Prelude.{Ok, Err}
-use Rattle.std.specs.Prelude.{◌≡◌, ℕ, ◌<◌, ◌≤◌, Bool, true, false, cond, List, [], ◌∷◌, ◌++◌, length, take, ℤ, ◌≢◌, refl}
+use Rattle.std.specs.Prelude.{Option, Some, None, Ok, Err}
+use Rattle.std.specs.Prelude.{◌≡◌, ℕ, ◌<◌, ◌≤◌, cond, List, [], ◌∷◌, ◌++◌, length, take, ℤ, ◌≢◌, refl}
 use Rattle.std.proofs.Common.{sym, ◌∙◌, ap, append-nil, inl, inr, arith, eq-eqb, ne_eqb, le-leb, length-append}
 use Rattle.std.proofs.Math.Option.{none, some}
 use Rattle.std.proofs.Math.Seq.{append_snoc}
@@ -80,11 +80,15 @@ module _ (tag : ℕ) (read_as : List (List ℕ) → List ℕ → List Event)
 
 -- ---- the reader
 data Midway (r : Reader) (f g : List ℤ) (pre : List ℕ) : Type 0 where
-  first : r.second ≡ false → Holds first_tag r.line f pre → Midway r f g pre
-  second : r.second ≡ true → r.numbers ≤ length f → Holds second_tag r.line g pre → Midway r f g pre
+  first : r.first ≡ None → Holds first_tag r.line f pre → Midway r f g pre
+  second : (n : ℕ) → r.first ≡ Some n → n ≤ length f → Holds second_tag r.line g pre → Midway r f g pre
+
+abbrev turn_in : Option ℕ → List ℤ → List (List ℕ) → List ℕ → List Event
+turn_in None f = events_of
+turn_in (Some n) f = events_second (take n f)
 
 abbrev turn : Reader → List ℤ → List (List ℕ) → List ℕ → List Event
-turn r f = cond r.second (events_second (take r.numbers f)) events_of
+turn r f = turn_in r.first f
 
 abbrev Agrees : List ℕ → Type 0
 Agrees xs =
@@ -92,65 +96,65 @@ Agrees xs =
     from r f g xs ≡ turn r f (onto pre (in_lines xs)).lines (onto pre (in_lines xs)).rest
 
 -- ---- the input ends
-end_first : (r : Reader) (f : List ℤ) (pre : List ℕ) → r.second ≡ false → Holds first_tag r.line f pre →
+end_first : (r : Reader) (f : List ℤ) (pre : List ℕ) → r.first ≡ None → Holds first_tag r.line f pre →
     cond (ends_in_fault r) (fault ∷ []) [] ≡ events_of [] (pre ++ [])
 unfolding ends_in_fault
-end_first r f [] t (in_head h short p) = rw (t, h, eq-eqb r.line.part 0 p.counted)
-end_first r f (c ∷ pre) t (in_head h short p) = rw (t, h, ne_eqb r.line.part 0 (λ k. omega (arith, k, p.counted)))
-end_first r f pre t (in_body h whole cs body n e p b) =
+end_first r f [] t (in_head k v h short p) = rw (t, h, eq-eqb k 0 p.counted)
+end_first r f (c ∷ pre) t (in_head k v h short p) = rw (t, h, ne_eqb k 0 (λ z. omega (arith, z, p.counted)))
+end_first r f pre t (in_body want at k v h whole cs body n e p b) =
     rw (t, h)
     (sym (events_rest (pre ++ [])
     (rw (append-nil pre, e) (omega (arith, length-append whole cs, bytes_length whole b.read)))))
 
-end_second : (r : Reader) → r.second ≡ true → cond (ends_in_fault r) (fault ∷ []) [] ≡ fault ∷ []
+end_second : (r : Reader) {n : ℕ} → r.first ≡ Some n → cond (ends_in_fault r) (fault ∷ []) [] ≡ fault ∷ []
 unfolding ends_in_fault
 end_second r t = rw t
 
-abbrev at_end : Reader → List ℤ → List ℕ → Bool → List Event
-at_end r f pre b = cond b (events_second (take r.numbers f)) events_of [] (pre ++ [])
+abbrev at_end : List ℤ → List ℕ → Option ℕ → List Event
+at_end f pre o = turn_in o f [] (pre ++ [])
 
 -- ---- a byte more, with the rest of the input in hand
-module _ (xs : List ℕ) (more : Agrees xs) (c : ℕ) (n : ℕ) (pre : List ℕ) where
+module _ (xs : List ℕ) (more : Agrees xs) (c : ℕ) (pre : List ℕ) where
   by_first : (f g : List ℤ) → most_numbers ≤ length f → most_numbers ≤ length g → (ab : ReadGives) →
       Then first_tag f pre c ab →
-      events_by (on_first n ab.0 ab.1 g) (λ r' f' g'. from r' f' g' xs)
+      events_by (on_first ab.0 ab.1 g) (λ r' f' g'. from r' f' g' xs)
       ≡ events_of (onto pre (led_by c (in_lines xs))).lines (onto pre (led_by c (in_lines xs))).rest
   by_first f g hf hg (Ok (after.On l), b) (no_feed, holds, same) =
       rw (onto_other pre c (in_lines xs) no_feed)
-      (more (record { second = false; numbers = n; line = l }) b g (pre ++ c ∷ []) (first refl holds) (omega arith) hg)
+      (more (record { first = None; line = l }) b g (pre ++ c ∷ []) (first refl holds) (omega arith) hg)
   by_first f g hf hg (Ok (after.Frame m), b) (feed, is, fits, same) =
       rw (onto_feed pre c (in_lines xs) feed, first_then_second pre (in_lines xs).lines (in_lines xs).rest is)
       (rw (onto_nothing (in_lines xs)) at
-      (more (record { second = true; numbers = m; line = nothing_read }) b g []
-      (second refl fits (holds_nothing second_tag g)) (omega arith) hg))
+      (more (record { first = Some m; line = nothing_read }) b g []
+      (second m refl fits (holds_nothing second_tag g)) (omega arith) hg))
   by_first f g hf hg (Err _, b) d = doomed first_tag events_of events_none events_rest pre c (in_lines xs) d
 
-  by_second : (f g : List ℤ) → most_numbers ≤ length f → most_numbers ≤ length g → n ≤ length f →
+  by_second : (n : ℕ) (f g : List ℤ) → most_numbers ≤ length f → most_numbers ≤ length g → n ≤ length f →
       (ab : ReadGives) → Then second_tag g pre c ab →
       events_by (on_second n ab.0 f ab.1) (λ r' f' g'. from r' f' g' xs)
       ≡ events_second (take n f) (onto pre (led_by c (in_lines xs))).lines (onto pre (led_by c (in_lines xs))).rest
-  by_second f g hf hg fits (Ok (after.On l), b) (no_feed, holds, same) =
+  by_second n f g hf hg fits (Ok (after.On l), b) (no_feed, holds, same) =
       rw (onto_other pre c (in_lines xs) no_feed)
-      (more (record { second = true; numbers = n; line = l }) f b (pre ++ c ∷ [])
-      (second refl fits holds) hf (omega arith))
-  by_second f g hf hg fits (Ok (after.Frame m), b) (feed, is, within, same) =
+      (more (record { first = Some n; line = l }) f b (pre ++ c ∷ [])
+      (second n refl fits holds) hf (omega arith))
+  by_second n f g hf hg fits (Ok (after.Frame m), b) (feed, is, within, same) =
       rw (le-leb n (length f) fits, onto_feed pre c (in_lines xs) feed, is)
       (ap (λ (es : List Event). pair (take n f) (take m b) ∷ es)
       (rw (onto_nothing (in_lines xs)) at
       (more fresh f b [] (first refl (holds_nothing first_tag f)) hf (omega arith))))
-  by_second f g hf hg fits (Err _, b) d =
+  by_second n f g hf hg fits (Err _, b) d =
       doomed second_tag (events_second (take n f)) (λ l ls r e. rw e) (λ r h. refl) pre c (in_lines xs) d
 
 agrees : (xs : List ℕ) → Agrees xs
 unfolding from steps
-agrees [] r f g pre (first t holds) hf hg = end_first r f pre t holds ∙ sym (ap (at_end r f pre) t)
-agrees [] r f g pre (second t fits holds) hf hg = end_second r t ∙ sym (ap (at_end r f pre) t)
+agrees [] r f g pre (first t holds) hf hg = end_first r f pre t holds ∙ sym (ap (at_end f pre) t)
+agrees [] r f g pre (second n t fits holds) hf hg = end_second r t ∙ sym (ap (at_end f pre) t)
 agrees (c ∷ xs) r f g pre (first t holds) hf hg =
-    rw t (by_first xs (agrees xs) c r.numbers pre f g hf hg (reads first_tag r.line f c)
+    rw t (by_first xs (agrees xs) c pre f g hf hg (reads first_tag r.line f c)
     (keeps first_tag r.line f pre c holds hf))
-agrees (c ∷ xs) r f g pre (second t fits holds) hf hg =
+agrees (c ∷ xs) r f g pre (second n t fits holds) hf hg =
     rw t
-    (by_second xs (agrees xs) c r.numbers pre f g hf hg fits (reads second_tag r.line g c)
+    (by_second xs (agrees xs) c pre n f g hf hg fits (reads second_tag r.line g c)
     (keeps second_tag r.line g pre c holds hg))
 
 -- ---- 01 over the whole input, whatever the buffers held before

@@ -4,9 +4,8 @@ ghost use Rattle.std.specs.Prelude.{◌++◌};
 ghost use Rattle.frames.specs.Frames.{line_of, answer_line, refusal_line, fault_line};
 ghost use Rattle.frames.specs.Answer.{Written};
 
+use crate::LINE_FEED;
 use crate::digits::put_all;
-
-const LINE_FEED: u8 = b'\n';
 
 const ANSWER: u8 = 0xA0;
 

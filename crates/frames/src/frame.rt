@@ -4,10 +4,8 @@ ghost use Rattle.frames.specs.Frames.{two's_complement};
 ghost use Rattle.frames.specs.Reader.{nothing_read, closes, begins, reads};
 
 use crate::digits::worth;
-use crate::{Fault, Line};
+use crate::{Fault, LINE_FEED, Line};
 use limits::MOST_CORNERS;
-
-const LINE_FEED: u8 = b'\n';
 
 // The digits of the first two bytes, and of a number, but for the last.
 const HEAD: usize = 3;
@@ -40,15 +38,40 @@ fn number(value: u32) -> i32
     }
 }
 
+// One digit more of the first two bytes, of which `digits` are read; with it their value is `value`.
+#[tactic(auto, unfolding(crate::specs::Reader::begins))]
+fn begin(tag: u8, digits: usize, value: u32) -> Result<After, Fault>
+    ensures { result ≡ begins tag digits value }
+{
+    if digits < HEAD {
+        return Ok(After::On(Line::Head {
+            digits: digits + 1,
+            value,
+        }));
+    }
+    let empty = u32::from(tag) * 256;
+    if value < empty {
+        return Err(Fault);
+    }
+    // 01: "a byte n from 00 to 40 (hexadecimal)"
+    let n = (value - empty) as usize;
+    if n > MOST_CORNERS {
+        return Err(Fault);
+    }
+    Ok(After::On(Line::Body {
+        want: 2 * n,
+        at: 0,
+        digits: 0,
+        value: 0,
+    }))
+}
+
 impl Line {
     pub fn blank() -> Line
         ensures { result ≡ nothing_read }
     {
-        Line {
-            head: true,
-            want: 0,
-            at: 0,
-            part: 0,
+        Line::Head {
+            digits: 0,
             value: 0,
         }
     }
@@ -58,47 +81,17 @@ impl Line {
     fn close(self, c: u8, room: usize) -> Result<After, Fault>
         ensures { result ≡ closes self c room }
     {
-        if c == LINE_FEED
-            && !self.head
-            && self.part == 0
-            && self.at == self.want
-            && self.at <= room
-        {
-            Ok(After::Frame(self.at))
-        } else {
-            Err(Fault)
+        match self {
+            Line::Body {
+                want,
+                at,
+                digits,
+                ..
+            } if c == LINE_FEED && digits == 0 && at == want && at <= room => {
+                Ok(After::Frame(at))
+            }
+            _ => Err(Fault),
         }
-    }
-
-    // One digit more of the first two bytes, whose value is now `value`.
-    #[tactic(auto, unfolding(crate::specs::Reader::begins))]
-    fn begin(self, tag: u8, value: u32) -> Result<After, Fault>
-        ensures { result ≡ begins tag self value }
-    {
-        if self.part < HEAD {
-            return Ok(After::On(Line {
-                head: true,
-                part: self.part + 1,
-                value,
-                ..self
-            }));
-        }
-        let empty = u32::from(tag) * 256;
-        if value < empty {
-            return Err(Fault);
-        }
-        // 01: "a byte n from 00 to 40 (hexadecimal)"
-        let n = (value - empty) as usize;
-        if n > MOST_CORNERS {
-            return Err(Fault);
-        }
-        Ok(After::On(Line {
-            head: false,
-            want: 2 * n,
-            at: 0,
-            part: 0,
-            value: 0,
-        }))
     }
 
     // The next character of a line whose frame has the first byte `tag`; its numbers go into `numbers`.
@@ -108,32 +101,39 @@ impl Line {
         let Some(digit) = worth(c) else {
             return self.close(c, numbers.len());
         };
-        let value = self.value % FIVE_DIGITS * 16 + u32::from(digit);
-        if self.head {
-            return self.begin(tag, value);
-        }
-        let at = self.at;
-        if at >= self.want {
-            return Err(Fault);
-        }
-        if self.part < NUMBER {
-            return Ok(After::On(Line {
-                head: false,
-                part: self.part + 1,
+        match self {
+            Line::Head { digits, value } => {
+                begin(tag, digits, value % FIVE_DIGITS * 16 + u32::from(digit))
+            }
+            Line::Body {
+                want,
+                at,
+                digits,
                 value,
-                ..self
-            }));
+            } => {
+                if at >= want {
+                    return Err(Fault);
+                }
+                let value = value % FIVE_DIGITS * 16 + u32::from(digit);
+                if digits < NUMBER {
+                    return Ok(After::On(Line::Body {
+                        want,
+                        at,
+                        digits: digits + 1,
+                        value,
+                    }));
+                }
+                if at >= numbers.len() {
+                    return Err(Fault);
+                }
+                numbers[at] = number(value);
+                Ok(After::On(Line::Body {
+                    want,
+                    at: at + 1,
+                    digits: 0,
+                    value: 0,
+                }))
+            }
         }
-        if at >= numbers.len() {
-            return Err(Fault);
-        }
-        numbers[at] = number(value);
-        Ok(After::On(Line {
-            head: false,
-            at: at + 1,
-            part: 0,
-            value: 0,
-            ..self
-        }))
     }
 }

@@ -13,29 +13,31 @@ mod turn;
 
 use turn::Step;
 
-// What is read of a line. Any values of the fields will do: what each means for the next byte is stated for all of
-// them.
+const LINE_FEED: u8 = b'\n';
+
+// What is read of a line. Any values will do: what each means for the next byte is stated for all of them.
 #[derive(Clone, Copy, PartialEq, Eq, Debug)]
-pub struct Line {
-    // within the first two bytes
-    pub head: bool,
-    // how many numbers the frame has, once its second byte is read
-    pub want: usize,
-    // how many of them are read
-    pub at: usize,
-    // how many digits are read of the two bytes, or of the next number
-    pub part: usize,
-    // and the value of those digits
-    pub value: u32,
+pub enum Line {
+    // within the first two bytes: how many digits of them are read, and their value
+    Head {
+        digits: usize,
+        value: u32,
+    },
+    // past them: how many numbers the frame has and how many of them are read; of the next one, how many digits are
+    // read, and their value
+    Body {
+        want: usize,
+        at: usize,
+        digits: usize,
+        value: u32,
+    },
 }
 
 // The reader between two bytes.
 #[derive(Clone, Copy, PartialEq, Eq, Debug)]
 pub struct Reader {
-    // the line is the second of its pair
-    pub second: bool,
-    // how many numbers the first drawing has, where it is read
-    pub numbers: usize,
+    // how many numbers the first drawing has, once it is read: the line is then the second of its pair
+    pub first: Option<usize>,
     pub line: Line,
 }
 
@@ -62,8 +64,7 @@ pub fn start() -> Reader
     ensures { result ≡ fresh }
 {
     Reader {
-        second: false,
-        numbers: 0,
+        first: None,
         line: Line::blank(),
     }
 }
@@ -103,5 +104,9 @@ pub fn feed(
 pub fn fault_at_end(reader: Reader) -> bool
     ensures { result ≡ ends_in_fault reader }
 {
-    reader.second || !reader.line.head || reader.line.part != 0
+    reader.first.is_some()
+        || match reader.line {
+            Line::Head { digits, .. } => digits != 0,
+            Line::Body { .. } => true,
+        }
 }

@@ -22,33 +22,22 @@ impl Reader {
         ensures { (result, first.new, second.new)
             ≡ steps self first.old second.old c }
     {
-        if self.second {
-            return match self.line.read(SECOND_TAG, c, second)? {
-                After::On(line) => Ok(Step::On(Reader {
-                    second: true,
-                    line,
-                    ..self
+        match self.first {
+            None => match self.line.read(FIRST_TAG, c, first)? {
+                After::On(line) => Ok(Step::On(Reader { first: None, line })),
+                After::Frame(n) => Ok(Step::On(Reader {
+                    first: Some(n),
+                    line: Line::blank(),
                 })),
-                After::Frame(n) => {
-                    if self.numbers <= first.len() {
-                        Ok(Step::Pair(self.numbers, n))
-                    } else {
-                        Err(Fault)
-                    }
-                }
-            };
-        }
-        match self.line.read(FIRST_TAG, c, first)? {
-            After::On(line) => Ok(Step::On(Reader {
-                second: false,
-                line,
-                ..self
-            })),
-            After::Frame(numbers) => Ok(Step::On(Reader {
-                second: true,
-                numbers,
-                line: Line::blank(),
-            })),
+            },
+            Some(numbers) => match self.line.read(SECOND_TAG, c, second)? {
+                After::On(line) => Ok(Step::On(Reader {
+                    first: Some(numbers),
+                    line,
+                })),
+                After::Frame(n) if numbers <= first.len() => Ok(Step::Pair(numbers, n)),
+                After::Frame(_) => Err(Fault),
+            },
         }
     }
 }
