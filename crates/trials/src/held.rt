@@ -1,4 +1,8 @@
 // A call that is lent room in a buffer, held to what must come back.
+ghost use Rattle.std.specs.Prelude.{◌<◌, MatchOption};
+ghost use Rattle.std.specs.Fn.{FnOnceReturnsAtMut};
+ghost use Rattle.trials.specs.Held.{HeldTo};
+
 use crate::lines::Call;
 use recorded::lent::{agree, fill};
 use std::fmt;
@@ -14,10 +18,15 @@ pub fn held<G: PartialEq + fmt::Display + Drop, F: FnOnce(&mut [u8]) -> G, const
     answer: F,
 ) -> Option<bool>
     requires { F.IsAlwaysCallable answer }
+    ensures { MatchOption result (N < room)
+        (HeldTo (FnOnceReturnsAtMut F.FnOnce answer) (λ got. G.eq got due.now) room after.now) }
 {
+    if N < room {
+        return None;
+    }
     let mut buffer = [0u8; N];
     fill(&mut buffer);
-    let got = answer(buffer.get_mut(..room)?);
+    let got = answer(&mut buffer[..room]);
     let place = agree(&buffer, after);
     let right = got == *due && place == N;
     if !right {

@@ -1,5 +1,8 @@
 // The lines of a file, tried one after another.
-ghost use Rattle.std.specs.Prelude.{◌≡◌, ◌≤◌, length};
+ghost use Rattle.std.specs.Prelude.{Some, codes, ◌++◌, ◌≡◌, ◌≢◌, ◌≤◌, true, not, filter, length};
+ghost use Rattle.std.specs.Fmt.{decimal};
+ghost use Rattle.recorded.specs.Decimals.{word_start};
+ghost use Rattle.trials.specs.Names.{call_text};
 
 use crate::TEXT;
 use recorded::words::Words;
@@ -14,6 +17,8 @@ pub enum Call {
 }
 
 impl fmt::Display for Call {
+    ghost output = { λ call. Some (call_text call) };
+
     fn fmt<W: fmt::Write>(&self, f: &mut fmt::Formatter<W>) -> fmt::Result {
         match self {
             Call::Line(number) => write!(f, "line {number}"),
@@ -30,6 +35,8 @@ pub struct Tally {
 }
 
 impl fmt::Display for Tally {
+    ghost output = { λ t. Some (decimal t.calls ++ codes " calls, " ++ decimal t.differences ++ codes " differences") };
+
     fn fmt<W: fmt::Write>(&self, f: &mut fmt::Formatter<W>) -> fmt::Result {
         write!(f, "{} calls, {} differences", self.calls, self.differences)
     }
@@ -39,7 +46,7 @@ impl Tally {
     // Of calls that are told one by one: whether each gave what it must.
     pub fn of(right: &[bool]) -> Tally
         ensures calls { result.calls ≡ length right.now }
-        ensures differences { result.differences ≤ result.calls }
+        ensures differences { result.differences ≡ length (filter (λ b. not b) right.now) }
     {
         Tally {
             calls: right.len() as u64,
@@ -57,7 +64,12 @@ pub fn lines<F: FnMut(&mut Words, Call) -> Option<bool>>(
 ) -> Tally
     requires { F.IsAlwaysCallable tried }
     ensures calls { result.calls ≤ length text.now }
+    ensures none { result.calls ≡ 0 → length text.now ≤ word_start text.now 0 }
     ensures differences { result.differences ≤ result.calls }
+    ensures right { ((f : F) (w : _) (call : _) (r : _) (w' : _) (f' : F) → F.step f w call r w' f' → r ≡ Some true)
+        → result.differences ≡ 0 }
+    ensures wrong { ((f : F) (w : _) (call : _) (r : _) (w' : _) (f' : F) → F.step f w call r w' f' → r ≢ Some true)
+        → result.differences ≡ result.calls }
 {
     let mut words = Words::new(text);
     let mut tally = Tally {
@@ -88,7 +100,12 @@ pub fn file<F: FnMut(&mut Words, Call) -> Option<bool>>(
     tried: F,
 ) -> Tally
     requires { F.IsAlwaysCallable tried }
-    ensures { result.differences ≤ result.calls }
+    ensures calls { result.calls ≤ TEXT }
+    ensures differences { result.differences ≤ result.calls }
+    ensures right { ((f : F) (w : _) (call : _) (r : _) (w' : _) (f' : F) → F.step f w call r w' f' → r ≡ Some true)
+        → result.differences ≡ 0 }
+    ensures wrong { ((f : F) (w : _) (call : _) (r : _) (w' : _) (f' : F) → F.step f w call r w' f' → r ≢ Some true)
+        → result.differences ≡ result.calls }
 {
     let mut text = [0u8; TEXT];
     let n = loading::load(rt, name, &mut text);

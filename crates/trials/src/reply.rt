@@ -1,5 +1,10 @@
 // What comes back from a call for a cutting, but for the buffer.
-ghost use Rattle.std.specs.Prelude.{◌≡◌};
+ghost use Rattle.std.specs.Prelude.{Some, codes, ◌++◌, ◌≡◌, length};
+ghost use Rattle.std.specs.Fmt.{decimal};
+ghost use Rattle.recorded.specs.Counted.{counted_bytes, left_in, list_end};
+ghost use Rattle.recorded.specs.Decimals.{Moved, after, first_word, natural};
+ghost use Rattle.recorded.specs.Lent.{Holds};
+ghost use Rattle.trials.specs.Replies.{reply};
 
 use crate::BUFFER;
 use recorded::words::Words;
@@ -24,22 +29,37 @@ impl Reply {
         }
     }
 
-    // What must come back, as a text has it; the buffer that the call must leave is put into `after`.
-    pub fn read(words: &mut Words, after: &mut [u8; BUFFER]) -> Option<Reply> {
+    // What must come back, as a text has it; the buffer that the call must leave is put into `buffer`.
+    pub fn read(words: &mut Words, buffer: &mut [u8; BUFFER]) -> Option<Reply>
+        ensures value { let text = words.old.text.now in let at = words.old.at in
+            result ≡ reply (natural (first_word text at)) (natural (first_word text (after text at)))
+            (counted_bytes text (after text (after text at)) (length buffer.old)) }
+        ensures place { let text = words.old.text.now in let at = words.old.at in
+            Moved words.old words.new (list_end text (after text (after text at)) (length buffer.old)) }
+        ensures holds { let text = words.old.text.now in let at = words.old.at in
+            Holds 0 (left_in text (after text (after text at)) (length buffer.old)) buffer.old buffer.new }
+    {
+        let number = words.natural();
+        let pieces = words.natural();
+        let bytes = words.left(buffer);
         Some(Reply {
-            number: words.natural()?,
-            pieces: words.natural()? as usize,
-            bytes: words.left(after)?,
+            number: number?,
+            pieces: pieces? as usize,
+            bytes: bytes?,
         })
     }
 }
 
 impl fmt::Display for Reply {
+    ghost output = { λ r. Some (codes "number " ++ decimal r.number ++ codes ", pieces " ++ decimal r.pieces
+        ++ codes ", bytes " ++ decimal r.bytes) };
+
     fn fmt<W: fmt::Write>(&self, f: &mut fmt::Formatter<W>) -> fmt::Result {
-        write!(
-            f,
-            "number {}, pieces {}, bytes {}",
-            self.number, self.pieces, self.bytes
-        )
+        let Reply {
+            number,
+            pieces,
+            bytes,
+        } = self;
+        write!(f, "number {number}, pieces {pieces}, bytes {bytes}")
     }
 }

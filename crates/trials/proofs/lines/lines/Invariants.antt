@@ -1,8 +1,15 @@
--- Of the calls so far, as many at most did not give what they must.
-use Rattle.std.proofs.Common.{◌≤◌}
+-- Of the calls so far, as many at most were not right: none where each is, all where none is.
+use Rattle.std.proofs.Common.{◌≡◌, ◌≢◌, ◌≤◌, true, Some}
 use denote.Param.Always.{always_mut}
 use Rattle.trials.proofs.lines.lines.Given as goal
 
 abbrev pub invariant-loop-line : goal.invariant-loop-line
 invariant-loop-line g l =
-    always_mut g.F.FnMut l.tried × (l.tally.calls ≤ l._line) × (l.tally.differences ≤ l.tally.calls)
+    always_mut g.F.FnMut l.tried
+    × (l.tally.calls ≡ l._line)
+    × (l._line ≡ 0 → (l.words.at ≡ 0) × (l.words.text.now ≡ l.text))
+    × (l.tally.differences ≤ l.tally.calls)
+    × (((f : _) (w : _) (call : _) (r : _) (w' : _) (f' : _) → goal.F-step g f w call r w' f' → r ≡ Some true) →
+    l.tally.differences ≡ 0)
+    × (((f : _) (w : _) (call : _) (r : _) (w' : _) (f' : _) → goal.F-step g f w call r w' f' → r ≢ Some true) →
+    l.tally.differences ≡ l.tally.calls)
