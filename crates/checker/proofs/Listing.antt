@@ -1,11 +1,18 @@
 -- Number 21: bytes are a list of pieces where each piece that is read is an allowed one, up to the end.
-use Rattle.std.specs.Prelude.{◌≡◌, ◌↔◌, Bool, List, [], ◌∷◌, ℕ, eqb, length}
-use Rattle.std.proofs.Common.{refl, sym, ap, ◌∙◌, subst, inl, inr, arith}
-use Rattle.outline.specs.Tells.{Tells, as_well, eq_tells}
+use Rattle.std.specs.Prelude.{◌≡◌, ◌↔◌, Bool, true, false, not, List, [], ◌∷◌, ℕ, eqb, length}
+use Rattle.std.proofs.Common.{refl, sym, ap, ◌∙◌, subst, inl, inr, arith, eqb-true, eq-eqb, true≢false}
+use Rattle.outline.specs.Tells.{Tells, if_no, as_well, eq_tells}
+use Rattle.std.specs.Bool.{MatchBool}
+use Rattle.std.specs.Fn.{Called}
+use Rattle.std.specs.Iterator.{ChecksAll}
+use denote.Param.Members.{Mut}
+use Rattle.checker.specs.declared.pieces.Piece.{Piece}
+use Rattle.checker.specs.declared.pieces.Pieces.{Pieces}
 use Rattle.rules.specs.Lists.{In}
 use Rattle.checker.specs.Checks.{Entry, laid, Allowed, IsList}
 use Rattle.checker.specs.Unique.{first_one}
-use Rattle.checker.specs.Parts.{spelt, NoPiece}
+use Rattle.checker.specs.Parts.{spelt, NoPiece, as_entry, Reads}
+use Rattle.checker.proofs.Reading.{over_all}
 
 -- bytes that are pieces, perhaps none
 abbrev Entries : ℕ → List ℕ → Type 0
@@ -93,3 +100,36 @@ no_listing {n} {bytes} e l = go l.0 l.1.some l.1.are
     go : (l : List Entry) → ¬ (l ≡ []) → bytes ≡ laid l → ⊥
     go [] k q = k refl
     go (f ∷ l) k q = omega (arith, ap length q)
+
+-- ---- all of them, as `all` asks: where it ends, what is left decides
+module _ {F : Type 0} {g : Mut F (Piece × Unit {0}) Bool} (n : ℕ) where
+  pub listing_all : {f : F} (s u : Pieces) {r : Bool} →
+      ChecksAll (λ (s : Pieces) r (t : Pieces). Reads s.rest.now r t.rest.now) g s f r u →
+      ((x : Piece) (q : Bool) (h : F) → Called g f (x, tt) q h → Tells q (Allowed n (as_entry x)) × (h ≡ f)) →
+      MatchBool r (Listing n s.rest.now u.rest.now × NoPiece u.rest.now) (¬ IsList n s.rest.now)
+  listing_all {f} s u {r} ran k =
+      go r
+      (over_all (Listing n s.rest.now) (λ x. Allowed n (as_entry x)) (λ x. ¬ Allowed n (as_entry x))
+      (λ left after x h q a. listing_more h (as_entry x) after q a) f
+      (λ x h z. let a = k x true h z in (a.1, a.0.sure tt)) (λ x h z. if_no (k x false h z).0 refl) r s u
+      (listing_none n s.rest.now) ran)
+    where
+      go : (r : Bool) →
+          MatchBool r (Listing n s.rest.now u.rest.now × NoPiece u.rest.now)
+          ((left after : List ℕ) × (x : Piece) × Listing n s.rest.now left × (left ≡ spelt (as_entry x) after)
+          × (¬ Allowed n (as_entry x))) →
+          MatchBool r (Listing n s.rest.now u.rest.now × NoPiece u.rest.now) (¬ IsList n s.rest.now)
+      go true h = h
+      go false (left, after, x, h, q, f) = listing_fails h (as_entry x) after q f
+
+-- ---- whether there are bytes
+pub some_bytes : (bytes : List ℕ) {e v : Bool} → e ≡ eqb (length bytes) 0 → v ≡ not e → v ≡ true →
+    ¬ (length bytes ≡ 0)
+some_bytes bytes r p q z = true≢false (sym q ∙ p ∙ ap not (r ∙ eq-eqb (length bytes) 0 z))
+
+pub no_bytes : (bytes : List ℕ) {e v : Bool} → e ≡ eqb (length bytes) 0 → v ≡ not e → v ≡ false → length bytes ≡ 0
+no_bytes bytes {e} r p q = eqb-true (length bytes) 0 (sym r ∙ go e (sym p ∙ q))
+  where
+    go : (e : Bool) → not e ≡ false → e ≡ true
+    go true h = refl
+    go false h = absurd (true≢false h)

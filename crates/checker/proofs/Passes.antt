@@ -4,11 +4,17 @@
 use Rattle.std.specs.Prelude.{◌≡◌, Bool, true, false, ◌&&◌, List, [], ◌∷◌, ℕ, suc, ◌+◌, Err}
 use Rattle.std.proofs.Common.{refl, sym, ap, ◌∙◌, subst, inl, inr, add-one}
 use Rattle.checker.specs.Checks.{says, verdict, Entry, corner_lists, Sight, FirstFailed, of_pieces}
-use Rattle.checker.specs.Parts.{spelt, NoPiece, MarksPiece, Marks, MarksAll, fits, all_fit, FitsAll}
+use Rattle.std.specs.Bool.{MatchBool}
+use Rattle.std.specs.Fn.{Called}
+use Rattle.std.specs.Iterator.{ChecksAll}
+use denote.Param.Members.{Mut}
+use Rattle.checker.specs.declared.pieces.Piece.{Piece}
+use Rattle.checker.specs.declared.pieces.Pieces.{Pieces}
+use Rattle.checker.specs.Parts.{Readable, as_entry, Reads, spelt, NoPiece, MarksPiece, Marks, MarksAll, fits, all_fit, FitsAll}
 use Rattle.checker.specs.Parts.{in_cells, FirstFault}
 use Rattle.checker.specs.declared.Fault.{Fault}
 use Rattle.checker.specs.declared.flat.Verdict.{Verdict}
-use Rattle.checker.proofs.Reading.{Walk, Next, walk_next, walk_more, walk_end}
+use Rattle.checker.proofs.Reading.{Walk, Next, walk_none, walk_next, walk_more, walk_end, over_all}
 use Rattle.checker.proofs.AtFault.{passed, stopped}
 
 -- ---- the lines are marked: from the tables c t on, what the rest brings is what all bring from o p on
@@ -62,6 +68,32 @@ module _ {bytes left : List ℕ} (c t : List ℕ) (w : Walk bytes (Fitting c t) 
 
   pub fitting_end : NoPiece left → FitsAll bytes c t true
   fitting_end none = (w.entries, w.whole, sym (walk_end w none))
+
+-- all of them, as `all` asks
+module _ {F : Type 0} {g : Mut F (Piece × Unit {0}) Bool} (c t : List ℕ) where
+  pub fitting_all : {f : F} (s u : Pieces) {r : Bool} → Readable s.rest.now →
+      ChecksAll (λ (s : Pieces) r (t : Pieces). Reads s.rest.now r t.rest.now) g s f r u →
+      ((x : Piece) (q : Bool) (h : F) → Called g f (x, tt) q h → (q ≡ fits c t x.corners.now) × (h ≡ f)) →
+      FitsAll s.rest.now c t r
+  fitting_all {f} s u {r} readable ran k = go r told
+    where
+      told : MatchBool r (Walk s.rest.now (Fitting c t) u.rest.now × NoPiece u.rest.now)
+          ((left after : List ℕ) × (x : Piece) × Walk s.rest.now (Fitting c t) left
+          × (left ≡ spelt (as_entry x) after) × (false ≡ fits c t x.corners.now))
+      told =
+          over_all (Walk s.rest.now (Fitting c t)) (λ x. true ≡ fits c t x.corners.now)
+          (λ x. false ≡ fits c t x.corners.now)
+          (λ left after x w q e. fitting_more c t w (as_entry x) after q e refl) f
+          (λ x h z. let a = k x true h z in (a.1, a.0)) (λ x h z. (k x false h z).0) r s u
+          (walk_none _ readable (λ l. refl)) ran
+
+      go : (r : Bool) →
+          MatchBool r (Walk s.rest.now (Fitting c t) u.rest.now × NoPiece u.rest.now)
+          ((left after : List ℕ) × (x : Piece) × Walk s.rest.now (Fitting c t) left
+          × (left ≡ spelt (as_entry x) after) × (false ≡ fits c t x.corners.now)) →
+          FitsAll s.rest.now c t r
+      go true (w, none) = fitting_end c t w none
+      go false (left, after, x, w, q, e) = fitting_fails c t w (as_entry x) after q e refl
 
 -- ---- the first piece at fault: none before the place `from`
 abbrev pub NoFault : Sight → Sight → ℕ → List Entry → List Entry → Type 0

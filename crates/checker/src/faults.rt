@@ -10,6 +10,13 @@ use crate::lines::cell;
 use crate::pieces::{Piece, Pieces};
 use pair::Which;
 
+// The sight of the two drawings of a pair, as cells.
+#[derive(Clone, Copy)]
+pub struct Sights<'a> {
+    pub first: &'a [u8],
+    pub second: &'a [u8],
+}
+
 // What a cell tells of x and y: whether they see each other by the strict rule, and whether x, as a centre, sees y.
 fn strictly(sight: &[u8], x: u8, y: u8) -> bool
     ensures { result ≡ strictly_sees sight.now x y }
@@ -42,34 +49,35 @@ impl Piece<'_> {
             .all(|y| as_centre(sight, self.centre, *y))
     }
 
-    fn fault(&self, place: usize, first: &[u8], second: &[u8]) -> Result<(), Fault>
+    // The first of 02's four questions that fails, in its order: a drawing and a kind of fault for each.
+    fn fault(&self, place: usize, sights: &Sights) -> Result<(), Fault>
         requires { Corners self.now.corners.now }
         ensures { FirstFailed
-            (of_pieces (in_cells first.now) (in_cells second.now) place
+            (of_pieces (in_cells sights.now.first.now) (in_cells sights.now.second.now) place
             (as_entry self.now ∷ []))
             (verdict result) }
     {
-        if !self.lines_seen(first) {
+        if !self.lines_seen(sights.first) {
             return Err(Fault::Unseen {
-                place: place,
+                place,
                 drawing: Which::First,
             });
         }
-        if !self.lines_seen(second) {
+        if !self.lines_seen(sights.second) {
             return Err(Fault::Unseen {
-                place: place,
+                place,
                 drawing: Which::Second,
             });
         }
-        if !self.centre_sees(first) {
+        if !self.centre_sees(sights.first) {
             return Err(Fault::Misses {
-                place: place,
+                place,
                 drawing: Which::First,
             });
         }
-        if !self.centre_sees(second) {
+        if !self.centre_sees(sights.second) {
             return Err(Fault::Misses {
-                place: place,
+                place,
                 drawing: Which::Second,
             });
         }
@@ -77,12 +85,12 @@ impl Piece<'_> {
     }
 }
 
-pub fn first_fault(first: &[u8], second: &[u8], list: &[u8]) -> Result<(), Fault>
+pub fn first_fault(sights: &Sights, list: &[u8]) -> Result<(), Fault>
     requires { Readable list.now }
-    ensures { FirstFault first.now second.now list.now (verdict result) }
+    ensures { FirstFault sights.now.first.now sights.now.second.now list.now (verdict result) }
 {
     for (place, piece) in (Pieces { rest: list }).enumerate() {
-        piece.fault(place, first, second)?;
+        piece.fault(place, sights)?;
     }
     Ok(())
 }

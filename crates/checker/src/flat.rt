@@ -15,6 +15,7 @@ pub struct Verdict {
     pub place: usize,
 }
 
+// (No `From`: both types are other crates'.)
 fn which_number(which: Which) -> u8
     ensures { result ≡ which_number which }
 {

@@ -16,7 +16,7 @@ mod listed;
 mod nested;
 mod pieces;
 
-use faults::first_fault;
+use faults::{Sights, first_fault};
 use limits::ALL_CELLS;
 use listed::is_list;
 use nested::is_cutting;
@@ -42,9 +42,9 @@ impl From<Refusal> for Fault {
 }
 
 // By the cells of two sound drawings.
-fn of_bytes(n: usize, first: &[u8], second: &[u8], list: &[u8]) -> Result<(), Fault>
+fn of_bytes(n: usize, sights: &Sights, list: &[u8]) -> Result<(), Fault>
     requires { (fewest_corners ≤ n) × (n ≤ most_corners) }
-    ensures { OfBytes (in_cells first.now) (in_cells second.now) n list.now (verdict result) }
+    ensures { OfBytes (in_cells sights.now.first.now) (in_cells sights.now.second.now) n list.now (verdict result) }
 {
     if !is_list(n, list) {
         return Err(Fault::NoList);
@@ -52,7 +52,7 @@ fn of_bytes(n: usize, first: &[u8], second: &[u8], list: &[u8]) -> Result<(), Fa
     if !is_cutting(n, list) {
         return Err(Fault::NoCutting);
     }
-    first_fault(first, second, list)
+    first_fault(sights, list)
 }
 
 // The first thing that is wrong, in 02's order: with the pair, with the bytes, with the pieces as a whole, with one of
@@ -63,5 +63,9 @@ pub fn check(first: &[i32], second: &[i32], list: &[u8]) -> Result<(), Fault>
     let mut sight1 = [0u8; ALL_CELLS];
     let mut sight2 = [0u8; ALL_CELLS];
     pair::sight(first, second, &mut sight1, &mut sight2)?;
-    of_bytes(first.len() / 2, &sight1, &sight2, list)
+    let sights = Sights {
+        first: &sight1,
+        second: &sight2,
+    };
+    of_bytes(first.len() / 2, &sights, list)
 }

@@ -28,10 +28,6 @@ pub fn is_list(n: usize, list: &[u8]) -> bool
     ensures { Tells result (IsList n list.now) }
 {
     let mut pieces = Pieces { rest: list };
-    while let Some(piece) = pieces.next() {
-        if !piece.is_allowed(n) {
-            return false;
-        }
-    }
-    !list.is_empty() && pieces.rest.is_empty()
+    let allowed = pieces.all(|piece| piece.is_allowed(n));
+    allowed && !list.is_empty() && pieces.rest.is_empty()
 }

@@ -7,7 +7,7 @@ ghost use Rattle.std.specs.Prelude.{◌≡◌, ◌≤◌};
 ghost use Rattle.limits.specs.Limits.{fewest_corners, most_corners};
 ghost use Rattle.checker.specs.Checks.{IsList};
 ghost use Rattle.checker.specs.Parts.{Readable, closes, fits, stepped};
-ghost use Rattle.checker.specs.Parts.{MarksPiece, MarksAll, FitsAll, TellsCutting};
+ghost use Rattle.checker.specs.Parts.{MarksPiece, MarksAll, TellsCutting};
 
 use crate::lines::Lines;
 use crate::pieces::{Piece, Pieces};
@@ -51,24 +51,13 @@ impl Piece<'_> {
     }
 }
 
+// A loop, as nothing is known after `all` of what its closure has changed.
 fn mark_all(list: &[u8], closings: &mut Lines, steps: &mut Lines) -> bool
     requires { Readable list.now }
     ensures { MarksAll list.now closings.old steps.old closings.new steps.new result }
 {
     for piece in (Pieces { rest: list }) {
         if !piece.mark(closings, steps) {
-            return false;
-        }
-    }
-    true
-}
-
-fn all_fit(list: &[u8], closings: &Lines, steps: &Lines) -> bool
-    requires { Readable list.now }
-    ensures { FitsAll list.now closings.now steps.now result }
-{
-    for piece in (Pieces { rest: list }) {
-        if !piece.fits(closings, steps) {
             return false;
         }
     }
@@ -87,5 +76,5 @@ pub fn is_cutting(n: usize, list: &[u8]) -> bool
         return false;
     }
     steps.add(0, last);
-    all_fit(list, &closings, &steps)
+    Pieces { rest: list }.all(|piece| piece.fits(&closings, &steps))
 }

@@ -45,7 +45,7 @@ impl<'a> Iterator for Pieces<'a> {
         self.rest = rest;
         Some(Piece {
             centre: *centre,
-            corners: corners,
+            corners,
         })
     }
 }

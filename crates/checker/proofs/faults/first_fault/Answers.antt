@@ -11,10 +11,11 @@ fault-requires c = let s = c.in-Some.ensures.steps in (walk_next c.loop-place.in
 pub loop-place-preserved : goal.loop-place-preserved
 loop-place-preserved c =
     let p = c.in-Some.piece in
-    let s = c.in-Some.ensures.steps in (
+    let s = c.in-Some.ensures.steps in
+    let of = c.args.sights.now in (
       c.in-Some.ensures.goes.keeps,
       tt,
-      fault_more c.args.first.now c.args.second.now c.loop-place.invariant.2 (as_entry p) _ s.0 s.1
+      fault_more of.first.now of.second.now c.loop-place.invariant.2 (as_entry p) _ s.0 s.1
           c.in_ok-fault.ensures s.2,
     )
 
@@ -22,12 +23,13 @@ pub returns-in_err-fault : goal.returns-in_err-fault
 returns-in_err-fault c =
     let p = c.in-Some.piece in
     let s = c.in-Some.ensures.steps in
+    let of = c.args.sights.now in
     let e = err_from_is_err_and c.from_residual.result c.from_residual.ensures.1 in
     rw (e.1, e.2)
-    (fault_found c.args.first.now c.args.second.now c.loop-place.invariant.2 (as_entry p) _ s.0 s.1
+    (fault_found of.first.now of.second.now c.loop-place.invariant.2 (as_entry p) _ s.0 s.1
     _ c.in_err-fault.ensures)
 
 pub returns : goal.returns
 returns c =
     let s = c.in-None.ensures.steps in
-    fault_none c.args.first.now c.args.second.now c.loop-place.invariant.2 s.0.0
+    fault_none c.args.sights.now.first.now c.args.sights.now.second.now c.loop-place.invariant.2 s.0.0

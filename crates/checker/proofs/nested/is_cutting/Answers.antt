@@ -1,5 +1,6 @@
 -- `checker::nested::is_cutting`: what the two tables tell of 22.
-use Rattle.std.proofs.Common.{sym, ◌∙◌}
+use Rattle.std.proofs.Common.{rules, sym, ◌∙◌}
+use Rattle.checker.proofs.Passes.{fitting_all}
 use Rattle.checker.proofs.Verdicts.{readable}
 use Rattle.checker.proofs.Cuttings.{closed_twice, none_whole, all_told}
 use Rattle.checker.proofs.nested.is_cutting.Goals as goal
@@ -18,12 +19,11 @@ returns-then-not-mark_all c =
           none_whole r.0 r.1 m w.if-not-mark_all.false (sym w.has.ensures ∙ w.if-not-has.true)
     ]
 
-pub all_fit-requires : goal.all_fit-requires
-all_fit-requires c = readable c.requires.2
-
 pub returns : goal.returns
 returns c =
     let r = c.requires in
     let m = rw (c.none-closings.ensures, c.none-steps.ensures) at c.mark_all.ensures in
-    let f = rw c.add.ensures at c.all_fit.ensures in
-    all_told r.0 r.1 m c.if-not-mark_all.false (sym c.has.ensures ∙ c.if-not-has.false) f
+    let f = fitting_all c.mark_all.new.closings c.add.new.self (record { rest = c.args.list }) c.all.new.self
+    (readable r.2) c.all.ensures.ran
+    (λ x q h k. search rules) in
+    all_told r.0 r.1 m c.if-not-mark_all.false (sym c.has.ensures ∙ c.if-not-has.false) (rw c.add.ensures at f)
