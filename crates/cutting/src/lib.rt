@@ -82,7 +82,7 @@ fn frame(n: usize, first: &Table, second: &Table, pairs: &mut Table) -> Result<(
 pub fn search(n: usize, first: &[u8], second: &[u8], pairs: &mut [u8]) -> Result<(), Refusal>
     ensures { Searches n first.now second.now pairs.old pairs.new result }
 {
-    if n < FEWEST_CORNERS || n > MOST_CORNERS {
+    if !(FEWEST_CORNERS..=MOST_CORNERS).contains(&n) {
         return Err(Refusal::Unserved);
     }
     let first = first.first_chunk().ok_or(Refusal::Unserved)?;

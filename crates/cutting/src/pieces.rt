@@ -40,7 +40,8 @@ impl Tables {
         }
     }
 
-    // Whether the road of x from i to j comes before that of y: by the first corner where they differ.
+    // Whether the road of x from i to j comes before that of y: by the first corner where they differ. The corners of
+    // a road are sought and not counted, so no range goes over them.
     fn earlier(&self, col: &Table, i: usize, j: usize, x: usize, y: usize) -> bool
         requires { (x ≤ j) × (y ≤ j) × (i ≤ j) × (j < row) }
         ensures { result ≡ less (rest_in self.now.val self.now.left col.now x j i)

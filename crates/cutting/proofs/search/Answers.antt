@@ -2,6 +2,8 @@
 use native.Mathlib.Omega.{arith}
 use Rattle.limits.specs.Limits.{all_cells}
 use Rattle.std.specs.Array.{IsFirstChunk}
+use Rattle.std.specs.Range.{range_inclusive_start, range_inclusive_end}
+use Rattle.std.proofs.lemmas.Map.Keys.{le_from_is_le}
 use Rattle.cutting.proofs.Answers.{chunk_of, searches_short, served_chunks, searches_chunks}
 use Rattle.cutting.proofs.search.Goals as goal
 
@@ -19,7 +21,10 @@ returns-in_err-pairs c =
 
 pub frame-requires : goal.frame-requires
 frame-requires c =
-    served_chunks (omega arith) (omega arith)
+    let n = c.args.n in
+    let inside = c.if-not-contains.ensures.cases in
+    served_chunks (omega (arith, le_from_is_le (range_inclusive_start c.new.result) n inside.0))
+    (omega (arith, le_from_is_le n (range_inclusive_end c.new.result) inside.1))
     (chunk_of (λ y. IsFirstChunk c.args.first.now y.now all_cells) _ c.first_chunk.result c.ok_or.result
     c.in_ok-first.first c.ok_or.ensures.value c.in_ok-first.was c.first_chunk.ensures.cases)
     (chunk_of (λ y. IsFirstChunk c.args.second.now y.now all_cells) _ c.first_chunk-2.result c.ok_or-2.result
@@ -29,7 +34,10 @@ frame-requires c =
 
 pub returns : goal.returns
 returns c =
-    searches_chunks (omega arith) (omega arith)
+    let n = c.args.n in
+    let inside = c.if-not-contains.ensures.cases in
+    searches_chunks (omega (arith, le_from_is_le (range_inclusive_start c.new.result) n inside.0))
+    (omega (arith, le_from_is_le n (range_inclusive_end c.new.result) inside.1))
     (chunk_of (λ y. IsFirstChunk c.args.first.now y.now all_cells) _ c.first_chunk.result c.ok_or.result
     c.in_ok-first.first c.ok_or.ensures.value c.in_ok-first.was c.first_chunk.ensures.cases)
     (chunk_of (λ y. IsFirstChunk c.args.second.now y.now all_cells) _ c.first_chunk-2.result c.ok_or-2.result
