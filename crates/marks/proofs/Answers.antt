@@ -7,7 +7,7 @@ use Rattle.outline.specs.Drawing.{Point, corners}
 use Rattle.rules.specs.Lists.{In}
 use Rattle.marks.specs.Wedges.{Wedge, fan, piece_wedges, wedges}
 use Rattle.marks.specs.Lands.{Lands}
-use Rattle.marks.specs.Parts.{Piece, piece_fan, Spells, Read, Told, taken, Finds}
+use Rattle.marks.specs.Parts.{Piece, piece_fan, Spells, Read, Told, taken, Takes, Finds}
 use Rattle.marks.specs.declared.Place.{Place}
 
 -- ---- bytes that begin with a piece
@@ -133,10 +133,10 @@ module _ (first second : List ℤ) (m : Point) where
     here : Begins n p.read.pieces D
     here = begins n p.read.pieces D more p.read.spells
 
-    pub part_piece : Piece n part
+    part_piece : Piece n part
     part_piece = is_piece here
 
-    pub piece_hit : (P : Place) → Lands first second m (piece_fan part) (Some P) → Finds first second m L (Some P)
+    piece_hit : (P : Place) → Lands first second m (piece_fan part) (Some P) → Finds first second m L (Some P)
     piece_hit P f = record { finds = go }
       where
         go : (l : List (List ℕ)) → Spells n l L → Lands first second m (wedges l L) (Some P)
@@ -146,7 +146,7 @@ module _ (first second : List ℤ) (m : Point) where
             q.2 (Some P) (subst (λ x. Lands first second m x (Some P)) (sym (wedges_are b))
             (lands_before (piece_fan part) (wedges b.more (drop (taken D) D)) P f))
 
-    pub piece_missed : Lands first second m (piece_fan part) None → PassedTo L (drop (taken D) D)
+    piece_missed : Lands first second m (piece_fan part) None → PassedTo L (drop (taken D) D)
     piece_missed f = record {
       read = record { pieces = here.more; spells = subst (Spells n here.more) (sym (rest_is here)) here.then };
       rest = go;
@@ -164,6 +164,19 @@ module _ (first second : List ℤ) (m : Point) where
               λ r g. q.2 r (subst (λ x. Lands first second m x r) (sym (wedges_are b))
                   (lands_after (piece_fan part) (wedges b.more (drop (taken D) D)) r f g)),
             )
+
+  -- as `next` takes it
+  module _ (L D part M : List ℕ) (k : Takes D (Some part) M) (p : PassedTo L D) where
+    pub taken_piece : Piece n part
+    taken_piece = subst (Piece n) (sym k.1) (part_piece k.0 p)
+
+    pub taken_hit : (P : Place) → Lands first second m (piece_fan part) (Some P) → Finds first second m L (Some P)
+    taken_hit P h = piece_hit k.0 p P (subst (λ (x : List ℕ). Lands first second m (piece_fan x) (Some P)) k.1 h)
+
+    pub taken_missed : Lands first second m (piece_fan part) None → PassedTo L M
+    taken_missed h =
+        subst (PassedTo L) (sym k.2)
+        (piece_missed k.0 p (subst (λ (x : List ℕ). Lands first second m (piece_fan x) None) k.1 h))
 
   pub pieces_passed : {L D : List ℕ} → D ≡ [] → PassedTo L D → Finds first second m L None
   pieces_passed {L} {D} e p = record { finds = λ l s. let q = p.rest l s in q.2 None (none q.0 q.1) }

@@ -8,6 +8,7 @@ mod Sums
 mod Wedges
 -- the wedges of a piece, and the pieces of an answer, one after another
 mod Fans
+mod Finding
 mod Answers
 -- the number of a pair whose mark is out of range
 mod Numbers

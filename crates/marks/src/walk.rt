@@ -35,12 +35,7 @@ impl<'a> Poses<'a> {
         requires { Piece (corners self.now.first.now) piece.now }
         ensures { Lands self.now.first.now self.now.second.now (point self.now.mark) (piece_fan piece.now) result }
     {
-        for wedge in Wedges::of(piece) {
-            if let Some(place) = self.land(wedge) {
-                return Some(place);
-            }
-        }
-        None
+        Wedges::of(piece).find_map(|wedge| self.land(wedge))
     }
 
     // By the wedges of the whole answer.
@@ -48,11 +43,6 @@ impl<'a> Poses<'a> {
         requires { Read (corners self.now.first.now) told.now }
         ensures { Finds self.now.first.now self.now.second.now (point self.now.mark) told.now result }
     {
-        for piece in (Pieces { told }) {
-            if let Some(place) = self.within(piece) {
-                return Some(place);
-            }
-        }
-        None
+        Pieces { told }.find_map(|piece| self.within(piece))
     }
 }
