@@ -5,7 +5,9 @@ ghost use Rattle.rules.specs.Cells.{filled, centre_sees};
 
 use limits::{ALL_CELLS, ROW};
 
-// A flat array of cells, a row for each corner that there may be.
+// A flat array of cells, a row for each corner that there may be: 01 names the form. That x and y are below `ROW`
+// stays a clause: corners are bytes of the answer's buffer, and a type of them would be made anew of each byte that is
+// read.
 pub type Cells = [u8; ALL_CELLS];
 
 // Of a set of pairs: whether the cell of x and y is not 0.
