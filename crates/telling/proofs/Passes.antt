@@ -3,12 +3,13 @@
 use mathlib.Core.Path.{◌≡◌, refl, sym, ap, ap₂, subst, ◌∙◌}
 use mathlib.Core.Logic.{inl, inr}
 use mathlib.Core.List.{List, [], ◌∷◌, ◌++◌}
-use Prim.Native.Nat.{ℕ, ◌+◌, ◌-◌, ◌≤◌}
+use Prim.Native.Nat.{ℕ, ◌+◌, ◌-◌, ◌<◌, ◌≤◌}
 use native.Mathlib.Omega.{arith}
 use lib.ListN.{length, get_or, set, take, drop, length-append}
-use lib.Seq.{drop-append-add, take-append_seam}
+use lib.Seq.{take-append_seam, drop-append_seam}
+use Rattle.telling.proofs.Writes.{rest_is}
 use Rattle.rules.specs.Lists.{In}
-use Rattle.rules.specs.Lays.{lay_all}
+use Rattle.rules.specs.Lays.{lay, lay_all}
 
 -- ---- the first piece, and those after it
 pub record Front (o : List ℕ → ℕ) (l : List (List ℕ)) (told : List ℕ) : Type 0 where
@@ -16,6 +17,16 @@ pub record Front (o : List ℕ → ℕ) (l : List (List ℕ)) (told : List ℕ) 
   pub t : List (List ℕ)
   pub all : l ≡ S ∷ t
   pub is : told ≡ lay_all o (S ∷ t)
+
+-- told is split behind its first piece
+pub record Split (told p q : List ℕ) (to : ℕ) : Type 0 where
+  pub size : to ≡ get_or told 0 0
+  pub both : told ≡ p ++ q
+  pub long : length p ≡ 2 + to
+
+pub split : {told p q : List ℕ} {to : ℕ} → to ≡ get_or told 0 0 → told ≡ p ++ q → length p ≡ 2 + to →
+    Split told p q to
+split e g n = record { size = e; both = g; long = n }
 
 pub none : (o c : List ℕ → ℕ) {told : List ℕ} (l : List (List ℕ)) → told ≡ lay_all o l → length told ≡ 0 →
     told ≡ lay_all c l
@@ -34,35 +45,35 @@ module _ {o : List ℕ → ℕ} {told : List ℕ} where
     pub front_later : (Q : List ℕ) → In Q f.t → In Q l
     front_later Q i = subst (In Q) (sym f.all) (inr i)
 
-    module _ {to : ℕ} (e : to ≡ get_or told 0 0) where
-      front_to : to ≡ length f.S
-      front_to = e ∙ ap (λ q. get_or q 0 0) f.is
+    front_size : {to : ℕ} → to ≡ get_or told 0 0 → 2 + to ≡ 2 + length f.S
+    front_size e = omega (arith, e, ap (λ q. get_or q 0 0) f.is)
 
-      pub front_room : 2 + to ≤ length told
-      front_room = omega (arith, front_to, ap length f.is, length-append f.S (lay_all o f.t))
+    pub front_fits : {to : ℕ} → to ≡ get_or told 0 0 → 2 + to ≤ length told
+    front_fits e = omega (arith, front_size e, ap length f.is, length-append f.S (lay_all o f.t))
 
-      pub front_part : take (2 + to - 2) (drop 2 told) ≡ f.S
-      front_part =
-          let z : 2 + to - 2 ≡ length f.S = omega (arith, front_to) in
-          ap₂ (λ (n : ℕ) q. take n (drop 2 q)) z f.is ∙ take-append_seam f.S (lay_all o f.t)
+    -- the piece and the rest, split
+    module _ {p q : List ℕ} {to : ℕ} (s : Split told p q to) where
+      head : length p ≡ length (lay o f.S)
+      head = omega (arith, s.long, front_size s.size)
 
-      module _ (x : ℕ) where
-        pub front_rest : drop (2 + to) (set told 1 x) ≡ lay_all o f.t
-        front_rest =
-            let z : 2 + to ≡ length (length f.S ∷ x ∷ f.S) + 0 = omega (arith, front_to) in
-            ap₂ (λ (n : ℕ) q. drop n (set q 1 x)) z f.is
-            ∙ drop-append-add (length f.S ∷ x ∷ f.S) (lay_all o f.t) 0
+      split_piece : p ≡ lay o f.S
+      split_piece =
+          sym (take-append_seam p q) ∙ ap₂ take head (sym s.both ∙ f.is) ∙ take-append_seam (lay o f.S) (lay_all o f.t)
 
-        front_kept : take (2 + to) (set told 1 x) ≡ length f.S ∷ x ∷ f.S
-        front_kept =
-            let z : 2 + to ≡ length (length f.S ∷ x ∷ f.S) = omega (arith, front_to) in
-            ap₂ (λ (n : ℕ) q. take n (set q 1 x)) z f.is
-            ∙ take-append_seam (length f.S ∷ x ∷ f.S) (lay_all o f.t)
+      pub split_rest : q ≡ lay_all o f.t
+      split_rest =
+          sym (drop-append_seam p q) ∙ ap₂ drop head (sym s.both ∙ f.is) ∙ drop-append_seam (lay o f.S) (lay_all o f.t)
+
+      pub split_less : length q < length told
+      split_less = omega (arith, ap length s.both, length-append p q, s.long)
+
+      pub split_corners : take (length p - 2) (drop 2 p) ≡ f.S
+      split_corners = rest_is 2 p ∙ ap (drop 2) split_piece
 
       -- with its centre, and the others with theirs
-      pub front_done : (c : List ℕ → ℕ) {x : ℕ} {y : List ℕ} → x ≡ c (take (2 + to - 2) (drop 2 told)) →
-          y ≡ lay_all c f.t → take (2 + to) (set told 1 x) ++ y ≡ lay_all c l
-      front_done c {x} {y} k g =
-          ap₂ ◌++◌ (front_kept x) g
-          ∙ ap (λ (z : ℕ). length f.S ∷ z ∷ (f.S ++ lay_all c f.t)) (k ∙ ap c front_part)
+      pub split_done : (c : List ℕ → ℕ) {x : ℕ} {r : List ℕ} → x ≡ c (take (length p - 2) (drop 2 p)) →
+          r ≡ lay_all c f.t → set p 1 x ++ r ≡ lay_all c l
+      split_done c {x} {r} k h =
+          ap₂ (λ a (y : ℕ). set a 1 y ++ r) split_piece (k ∙ ap c split_corners)
+          ∙ ap (λ z. lay c f.S ++ z) h
           ∙ ap (lay_all c) (sym f.all)

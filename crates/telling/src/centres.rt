@@ -1,7 +1,7 @@
 // The centres are put in: a pass over pieces that are told already. Knows no pairs.
 //
-//     told:  k 0 corners | k 0 corners ..    `lowest` chooses among the corners of one piece, told[2..to], and another
-//                          to                choice would stand beside it
+//     told:  k 0 corners | k 0 corners ..    `lowest` chooses among the corners of one piece, and another choice would
+//            piece         rest              stand beside it
 ghost use Rattle.std.specs.Prelude.{◌≡◌, ◌<◌};
 ghost use Rattle.limits.specs.Limits.{row};
 ghost use Rattle.rules.specs.Cells.{both_see};
@@ -48,8 +48,9 @@ impl Sights<'_> {
     {
         if !told.is_empty() {
             let to = 2 + usize::from(told[0]);
-            told[1] = self.lowest(&told[2..to]);
-            self.put_centres(&mut told[to..]);
+            let (piece, rest) = told.split_at_mut(to);
+            piece[1] = self.lowest(&piece[2..]);
+            self.put_centres(rest);
         }
     }
 }

@@ -28,8 +28,8 @@ fn furthest(pairs: &Cells, a: usize, top: usize) -> usize
         .unwrap_or(a + 1)
 }
 
-// The corners after i of the piece on the line i j. No `for`: the loop goes from corner to corner, not over places, and
-// what is written through `iter_mut`, beside an iterator of the corners, no proof sees.
+// The corners after i of the piece on the line i j. No `for`: the loop goes from corner to corner, not over places;
+// and what is written through `iter_mut`, beside an iterator of the corners, no proof sees.
 fn spell(pairs: &Cells, i: usize, j: usize, out: &mut [u8]) -> usize
     requires corners { (i + 1 < j) × (j < row) }
     requires room { length (corners_after pairs.now i j) ≤ length out.old }
