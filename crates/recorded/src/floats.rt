@@ -9,8 +9,5 @@ const NO_NUMBER: u64 = 9221120237041090560;
 pub fn bits(x: f64) -> u64
     ensures { result ≡ to_bits binary64 x }
 {
-    if x != x {
-        return NO_NUMBER;
-    }
-    f64::to_bits(x)
+    if x.is_nan() { NO_NUMBER } else { x.to_bits() }
 }

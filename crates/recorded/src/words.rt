@@ -97,7 +97,7 @@ impl<'a> Words<'a> {
         ensures place { Moved self.old self.new (after self.old.text.now self.old.at) }
     {
         let n = self.natural()? as usize;
-        if n <= most { Some(n) } else { None }
+        (n <= most).then_some(n)
     }
 
     // As many numbers as `out` is long; none where a word tells none, and there `out` has a nought.
