@@ -3,7 +3,6 @@
 // and its sight.
 #![tactic(auto)]
 
-ghost use Rattle.outline.specs.Drawing.{Sound};
 ghost use Rattle.drawing.specs.Judgement.{Judgement};
 ghost use Rattle.drawing.specs.Sight.{Told, Sight};
 
@@ -18,6 +17,7 @@ mod segment;
 mod simple;
 mod table;
 
+use corners::Ring;
 use limits::ALL_CELLS;
 
 // What is wrong with a list of coordinates: the first of 01's conditions that it fails, in 01's order.
@@ -54,16 +54,15 @@ pub fn sight(xy: &[i32], cells: &mut [u8]) -> Result<(), Unsound>
     ensures { Sight xy.now cells.old cells.new result }
 {
     judge(xy)?;
-    tell(xy, cells);
+    tell(Ring { xy }, cells);
     Ok(())
 }
 
 // Where there is room.
-fn tell(xy: &[i32], cells: &mut [u8])
-    requires { Sound xy.now }
-    ensures { Told xy.now cells.old cells.new }
+fn tell(ring: Ring, cells: &mut [u8])
+    ensures { Told ring.entry.xy.now cells.old cells.new }
 {
     if let Some(table) = cells.first_chunk_mut::<ALL_CELLS>() {
-        table::fill(xy, table);
+        table::fill(ring, table);
     }
 }

@@ -2,11 +2,10 @@
 // the n corners; whatever a pair of corners asks of the sides is then a few operations on what the two know.
 ghost use Rattle.std.specs.Prelude.{◌≡◌, ◌<◌};
 ghost use Rattle.outline.specs.Drawing.{corners};
-ghost use Rattle.drawing.specs.Parts.{Limits};
 ghost use Rattle.drawing.specs.Known.{Needs, Knows, AllKnown};
 ghost use Rattle.drawing.specs.Away.{Far, Away, cross_of};
 
-use crate::corners::{corner, next, prev};
+use crate::corners::Ring;
 use crate::segment::{Place, turn};
 use limits::MOST_CORNERS;
 
@@ -24,9 +23,8 @@ pub struct Known {
 }
 
 // What each corner knows, in their order.
-pub fn learn(xy: &[i32]) -> [Known; MOST_CORNERS]
-    requires { Limits xy.now }
-    ensures { AllKnown xy.now (corners xy.now) result }
+pub fn learn(ring: Ring) -> [Known; MOST_CORNERS]
+    ensures { AllKnown ring.entry.xy.now (corners ring.entry.xy.now) result }
 {
     let nothing = Known {
         left: 0,
@@ -37,8 +35,8 @@ pub fn learn(xy: &[i32]) -> [Known; MOST_CORNERS]
         need: 0,
     };
     let mut known = [nothing; MOST_CORNERS];
-    for i in 0..xy.len() / 2 {
-        known[i] = know(xy, i);
+    for i in 0..ring.count() {
+        known[i] = know(ring, i);
     }
     known
 }
@@ -46,20 +44,20 @@ pub fn learn(xy: &[i32]) -> [Known; MOST_CORNERS]
 // The digits are made from the last side down, so that the far end of a side is the corner that was looked at just
 // before. Of all sides those are right that are neither left nor flat, whose line the corner is on; and of the flat
 // ones the two that end at the corner are taken away.
-fn know(xy: &[i32], i: usize) -> Known
-    requires { Limits xy.now × (i < corners xy.now) }
-    ensures { Knows xy.now i result }
+fn know(ring: Ring, i: usize) -> Known
+    requires { i < corners ring.xy.now }
+    ensures { Knows ring.entry.xy.now i result }
 {
-    let n = xy.len() / 2;
+    let n = ring.count();
     let mut all = 0;
     let mut left = 0;
     let mut flat = 0;
     let mut low = 0;
     let mut west = 0;
-    let mut end = away(xy, i, 0);
+    let mut end = away(ring, i, 0);
     for t in 0..n {
         let k = n - (t + 1);
-        let start = away(xy, i, k);
+        let start = away(ring, i, k);
         let s = cross(start, end);
         all = all * 2 + 1;
         left = left * 2 + (s > 0) as u64;
@@ -68,11 +66,11 @@ fn know(xy: &[i32], i: usize) -> Known
         west = west * 2 + ((start.x < 0) as u64 | (end.x < 0) as u64);
         end = start;
     }
-    let h = prev(xy, i);
+    let h = ring.prev(i);
     let before = 1 << h;
     let after = 1 << i;
     let along = flat ^ before ^ after;
-    let need = need(xy, i);
+    let need = need(ring, i);
     Known {
         left,
         right: all ^ left ^ flat,
@@ -84,12 +82,12 @@ fn know(xy: &[i32], i: usize) -> Known
 }
 
 // Corner k, as far as it is from corner i.
-fn away(xy: &[i32], i: usize, k: usize) -> Place
-    requires { Limits xy.now × (i < corners xy.now) × (k < corners xy.now) }
-    ensures { Away xy.now i k result }
+fn away(ring: Ring, i: usize, k: usize) -> Place
+    requires { (i < corners ring.xy.now) × (k < corners ring.xy.now) }
+    ensures { Away ring.entry.xy.now i k result }
 {
-    let a = corner(xy, i);
-    let c = corner(xy, k);
+    let a = ring.corner(i);
+    let c = ring.corner(k);
     Place {
         x: c.x - a.x,
         y: c.y - a.y,
@@ -105,14 +103,14 @@ fn cross(c: Place, d: Place) -> i64
 }
 
 // 2 where corner i turns left, and 1 where not.
-fn need(xy: &[i32], i: usize) -> u64
-    requires { Limits xy.now × (i < corners xy.now) }
-    ensures { Needs xy.now i result }
+fn need(ring: Ring, i: usize) -> u64
+    requires { i < corners ring.xy.now }
+    ensures { Needs ring.entry.xy.now i result }
 {
-    let h = prev(xy, i);
-    let m = next(xy, i);
-    let p = corner(xy, h);
-    let a = corner(xy, i);
-    let q = corner(xy, m);
+    let h = ring.prev(i);
+    let m = ring.next(i);
+    let p = ring.corner(h);
+    let a = ring.corner(i);
+    let q = ring.corner(m);
     if turn(p, a, q) > 0 { 2 } else { 1 }
 }

@@ -50,4 +50,4 @@ module _ {d : List ℤ} {o x t : List ℕ} (few : corners d ≤ most_corners) (f
   }
 
 pub returns-in-Some : goal.returns-in-Some
-returns-in-Some c = told_front c.requires.shaped.few c.in-Some.ensures.cases c.fill.ensures
+returns-in-Some c = told_front c.args.ring.sound.shaped.few c.in-Some.ensures.cases c.fill.ensures

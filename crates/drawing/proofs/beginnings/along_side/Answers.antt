@@ -22,12 +22,12 @@ module _ (d : List ℤ) (i k m : ℕ) (is : m ≡ after d k) (before now : List 
 
 pub returns-then-lies_on : goal.returns-then-lies_on
 returns-then-lies_on c =
-    first-end c.args.xy.now c.args.i c.args.k c.next-m.result
+    first-end c.args.ring.xy.now c.args.i c.args.k c.next-m.result
     c.next-m.ensures.is c.args.cells.now c.put.new.cells
     (if_yes c.lies_on.ensures c.if-lies_on.true) c.put.ensures
 
 pub returns-else-lies_on : goal.returns-else-lies_on
 returns-else-lies_on c =
-    other-end c.args.xy.now c.args.i c.args.k c.next-m.result
+    other-end c.args.ring.xy.now c.args.i c.args.k c.next-m.result
     c.next-m.ensures.is c.args.cells.now c.put-else-lies_on.new.cells
     (if_no c.lies_on.ensures c.if-lies_on.false) c.put-else-lies_on.ensures

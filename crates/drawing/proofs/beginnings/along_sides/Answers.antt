@@ -15,7 +15,7 @@ use Rattle.drawing.proofs.beginnings.along_sides.Goals as goal
 use Rattle.drawing.proofs.beginnings.along_sides.Goals.{In-Some}
 
 -- corner i is along the side of the next mark
-here : (c : In-Some) → let s = c.args in (c.in-Some.k < corners s.xy.now) × Along s.xy.now s.i c.in-Some.k
+here : (c : In-Some) → let s = c.args in (c.in-Some.k < corners s.ring.xy.now) × Along s.ring.xy.now s.i c.in-Some.k
 here c = c.requires.marks.yes _ (next_marked c.loop-k.invariant.scan c.in-Some.ensures.steps)
 
 pub loop-k-init : goal.loop-k-init
@@ -28,19 +28,18 @@ loop-k-init c =
       grown = rw e (row_begin c.requires.marks);
     }
 
-pub along_side-requires-clause-k_bound : goal.along_side-requires-clause-k_bound
-along_side-requires-clause-k_bound c = here (goal.at.along_side-requires-clause-k_bound c).In-Some
+pub along_side-requires-clause-along : goal.along_side-requires-clause-along
+along_side-requires-clause-along c = here (goal.at.along_side-requires-clause-along c).In-Some
 
 pub loop-k-preserved : goal.loop-k-preserved
 loop-k-preserved c =
     let side = here (goal.at.loop-k-preserved c).In-Some in
     let loop = c.loop-k.invariant in
     let n = c.in-Some.ensures.steps in
-    let h = c.requires.limits in
     let room : all_cells ≤ length c.loop-k.cells = omega (arith, loop.grown.size) in
-    let d = c.args.xy.now in
+    let d = c.args.ring.xy.now in
     let begun = RowBegunTo d c.args.i in
-    let told = side_begun h.1 h.2 _ _ side.0 side.1 loop.scan.fits n.0 n.1 _ _ room c.along_side.ensures in
+    let told = side_begun c.args.ring.sound c.requires.corner _ _ side.0 side.1 loop.scan.fits n.0 n.1 _ _ room c.along_side.ensures in
     record {
       can_next = tt;
       is_finite = tt;

@@ -16,6 +16,6 @@ loop-i-preserved c =
 pub returns : goal.returns
 returns c =
     let loop = c.loop-i in
-    let all : loop.i ≡ corners c.args.xy.now =
+    let all : loop.i ≡ corners c.args.ring.xy.now =
     omega (arith, loop.invariant.0, c.loop-i-test.false) in
     grows_on (rw all at loop.invariant.1) begun_all

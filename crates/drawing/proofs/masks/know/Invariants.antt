@@ -9,7 +9,7 @@ use Rattle.drawing.proofs.masks.know.Given as goal
 
 abbrev pub invariant-loop-t : goal.invariant-loop-t
 invariant-loop-t l =
-    (l.t ≤ corners l.xy) × Made (corners l.xy) l.t l.all (λ k. k ≡ k) × Made (corners l.xy) l.t l.left (Left l.xy l.i)
-    × Made (corners l.xy) l.t l.flat (OnLine l.xy l.i)
-    × Made (corners l.xy) l.t l.low (Low l.xy l.i) × Made (corners l.xy) l.t l.west (West l.xy l.i)
-    × (l.t < corners l.xy → Away l.xy l.i (after l.xy (corners l.xy - (l.t + 1))) l.end)
+    (l.t ≤ corners l.ring.xy.now) × Made (corners l.ring.xy.now) l.t l.all (λ k. k ≡ k) × Made (corners l.ring.xy.now) l.t l.left (Left l.ring.xy.now l.i)
+    × Made (corners l.ring.xy.now) l.t l.flat (OnLine l.ring.xy.now l.i)
+    × Made (corners l.ring.xy.now) l.t l.low (Low l.ring.xy.now l.i) × Made (corners l.ring.xy.now) l.t l.west (West l.ring.xy.now l.i)
+    × (l.t < corners l.ring.xy.now → Away l.ring.xy.now l.i (after l.ring.xy.now (corners l.ring.xy.now - (l.t + 1))) l.end)

@@ -15,7 +15,7 @@ loop-i-preserved c =
     let loop = c.loop-i in
     let l = c.loop-i-test.true in
     let here : loop.i < length loop.known =
-    omega (arith, c.requires.shaped.few, l, loop.invariant.2) in (
+    omega (arith, c.args.ring.sound.shaped.few, l, loop.invariant.2) in (
       omega (arith, l),
       known_more loop.known here loop.invariant.1 c.know.ensures,
       simp length-set loop.invariant.2,
@@ -24,6 +24,6 @@ loop-i-preserved c =
 pub returns : goal.returns
 returns c =
     let loop = c.loop-i in
-    let all : loop.i ≡ corners c.args.xy.now =
+    let all : loop.i ≡ corners c.args.ring.xy.now =
     omega (arith, loop.invariant.0, c.loop-i-test.false) in
     rw all at loop.invariant.1

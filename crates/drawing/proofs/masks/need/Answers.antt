@@ -10,9 +10,9 @@ use Rattle.drawing.proofs.masks.need.Goals as goal
 pub returns-then-turn-gt0 : goal.returns-then-turn-gt0
 returns-then-turn-gt0 c =
     let bend : let s = c.args in
-    let d = s.xy.now in
+    let d = s.ring.xy.now in
     back c.turn.result ≡ turn_of (corner d (prev (corners d) s.i)) (corner d s.i) (corner d (after d s.i)) =
-    let d = c.args.xy.now in
+    let d = c.args.ring.xy.now in
     let p = c.corner-p.ensures.is ∙ ap (corner d) c.prev-h.ensures.is in
     let q = c.corner-q.ensures.is ∙ ap (corner d) c.next-m.ensures.is in
     held c.turn.type_inv (c.turn.ensures ∙ turn_same p c.corner-a.ensures.is q) in
@@ -21,9 +21,9 @@ returns-then-turn-gt0 c =
 pub returns-else-turn-gt0 : goal.returns-else-turn-gt0
 returns-else-turn-gt0 c =
     let bend : let s = c.args in
-    let d = s.xy.now in
+    let d = s.ring.xy.now in
     back c.turn.result ≡ turn_of (corner d (prev (corners d) s.i)) (corner d s.i) (corner d (after d s.i)) =
-    let d = c.args.xy.now in
+    let d = c.args.ring.xy.now in
     let p = c.corner-p.ensures.is ∙ ap (corner d) c.prev-h.ensures.is in
     let q = c.corner-q.ensures.is ∙ ap (corner d) c.next-m.ensures.is in
     held c.turn.type_inv (c.turn.ensures ∙ turn_same p c.corner-a.ensures.is q) in

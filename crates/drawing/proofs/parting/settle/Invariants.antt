@@ -5,4 +5,4 @@ use Rattle.drawing.specs.Table.{RowsSettled}
 use Rattle.drawing.proofs.parting.settle.Given as goal
 
 abbrev pub invariant-loop-i : goal.invariant-loop-i
-invariant-loop-i l = (l.i ≤ corners l.xy) × RowsSettled l.xy l.i l.initial.cells l.cells
+invariant-loop-i l = (l.i ≤ corners l.ring.xy.now) × RowsSettled l.ring.xy.now l.i l.initial.cells l.cells

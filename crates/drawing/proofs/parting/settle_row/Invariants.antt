@@ -5,4 +5,4 @@ use Rattle.drawing.specs.Table.{RowSettled}
 use Rattle.drawing.proofs.parting.settle_row.Given as goal
 
 abbrev pub invariant-loop-j : goal.invariant-loop-j
-invariant-loop-j l = (l.j ≤ corners l.xy) × RowSettled l.xy l.i l.j l.initial.cells l.cells
+invariant-loop-j l = (l.j ≤ corners l.ring.xy.now) × RowSettled l.ring.xy.now l.i l.j l.initial.cells l.cells

@@ -9,12 +9,12 @@ use Rattle.drawing.proofs.seeing.angle.Goals as goal
 
 pub returns : goal.returns
 returns c =
-    let d = c.args.xy.now in
+    let d = c.args.ring.xy.now in
     let digits = bit_shifted c.args.left c.args.i in
     let other = bit_shifted c.args.left c.prev-h.result ∙ ap (bit c.args.left) c.prev-h.ensures.is in
     as_well (most_tells c.args.need (c.args.left / 2 ^ c.args.i % 2 + c.args.left / 2 ^ c.prev-h.result % 2))
-    (λ h. facing_of d c.args.i c.args.j c.args.need c.args.left c.requires.limits.1 c.requires.limits.2
+    (λ h. facing_of d c.args.i c.args.j c.args.need c.args.left c.requires.corner.0 c.requires.corner.1
     c.requires.marks (omega (arith, h, digits, other)))
-    (λ f. let g = facing_to d c.args.i c.args.j c.args.need c.args.left c.requires.limits.1 c.requires.limits.2
+    (λ f. let g = facing_to d c.args.i c.args.j c.args.need c.args.left c.requires.corner.0 c.requires.corner.1
     c.requires.marks f in
     omega (arith, g, digits, other))

@@ -11,7 +11,7 @@ use Rattle.drawing.proofs.seeing.lies_on.Goals as goal
 pub returns-then-turn-eq0 : goal.returns-then-turn-eq0
 returns-then-turn-eq0 c =
     let line : let s = c.args in
-    c.turn.result ≡ turn_of (corner s.xy.now s.i) (corner s.xy.now s.j) (corner s.xy.now s.k) =
+    c.turn.result ≡ turn_of (corner s.ring.xy.now s.i) (corner s.ring.xy.now s.j) (corner s.ring.xy.now s.k) =
     c.turn.ensures ∙
     turn_same c.corner-a.ensures.is c.corner-b.ensures.is
     c.corner-c.ensures.is in
@@ -24,7 +24,7 @@ returns-then-turn-eq0 c =
 pub returns-else-turn-eq0 : goal.returns-else-turn-eq0
 returns-else-turn-eq0 c =
     let line : let s = c.args in
-    c.turn.result ≡ turn_of (corner s.xy.now s.i) (corner s.xy.now s.j) (corner s.xy.now s.k) =
+    c.turn.result ≡ turn_of (corner s.ring.xy.now s.i) (corner s.ring.xy.now s.j) (corner s.ring.xy.now s.k) =
     c.turn.ensures ∙
     turn_same c.corner-a.ensures.is c.corner-b.ensures.is
     c.corner-c.ensures.is in

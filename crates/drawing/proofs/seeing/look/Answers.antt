@@ -28,9 +28,9 @@ told-early d sound i j hi hj n s = go (beside_or d i j)
 
 pub returns-then-not-angle : goal.returns-then-not-angle
 returns-then-not-angle c =
-    let h = c.requires.limits in
+    let h = c.requires.corners in
     let outside = if_no c.angle.ensures c.if-not-angle.true in
-    record { told = inr (refl, told-early _ h.1 c.args.i c.args.j h.2 h.3 outside) }
+    record { told = inr (refl, told-early _ c.args.ring.sound c.args.i c.args.j h.0 h.1 outside) }
 
 pub returns : goal.returns
 returns c = record { told = inl c.look_along.ensures }

@@ -7,5 +7,5 @@ abbrev pub invariant-loop-k : goal.invariant-loop-k
 invariant-loop-k l = record {
   can_next : (goal.iterator-loop-k).can_next l.k-iterator;
   is_finite : (goal.iterator-loop-k).is_finite l.k-iterator;
-  scan : Scan l.sides l.k-iterator.0 (λ k. ¬ Hides l.xy l.i l.j k);
+  scan : Scan l.sides l.k-iterator.0 (λ k. ¬ Hides l.ring.xy.now l.i l.j k);
 }

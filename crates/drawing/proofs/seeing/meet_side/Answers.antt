@@ -9,8 +9,8 @@ use Rattle.drawing.proofs.seeing.meet_side.Goals as goal
 pub meet-requires : goal.meet-requires
 meet-requires c =
     let d-is : let s = c.args in
-    point c.corner-d.result ≡ corner s.xy.now (after s.xy.now s.k) =
-    c.corner-d.ensures.is ∙ ap (corner c.args.xy.now) c.next-m.ensures.is in
+    point c.corner-d.result ≡ corner s.ring.xy.now (after s.ring.xy.now s.k) =
+    c.corner-d.ensures.is ∙ ap (corner c.args.ring.xy.now) c.next-m.ensures.is in
     record {
       close = (
         c.corner-a.ensures.close,
@@ -19,13 +19,13 @@ meet-requires c =
         c.corner-d.ensures.close,
       );
       reached = reached_as c.corner-a.ensures.is c.corner-b.ensures.is c.corner-c.ensures.is d-is
-          (open_reached c.args.xy.now c.args.i c.args.j c.args.k c.requires.fact);
+          (open_reached c.args.ring.xy.now c.args.i c.args.j c.args.k c.requires.open);
     }
 
 pub returns : goal.returns
 returns c =
     let d-is : let s = c.args in
-    point c.corner-d.result ≡ corner s.xy.now (after s.xy.now s.k) =
-    c.corner-d.ensures.is ∙ ap (corner c.args.xy.now) c.next-m.ensures.is in
+    point c.corner-d.result ≡ corner s.ring.xy.now (after s.ring.xy.now s.k) =
+    c.corner-d.ensures.is ∙ ap (corner c.args.ring.xy.now) c.next-m.ensures.is in
     meets_as c.corner-a.ensures.is c.corner-b.ensures.is c.corner-c.ensures.is d-is
     c.meet.result c.meet.ensures

@@ -24,7 +24,7 @@ returns c =
     let w = c.reach-west.result in
     let digits = look_digits a.left a.right a.along b.left b.right b.along l w in
     let back = look_digits_back a.left a.right a.along b.left b.right b.along l w in
-    looks c.args.xy.now c.requires.knows.0 c.requires.knows.1 c.requires.limits.0.shaped.few
+    looks c.args.ring.xy.now c.requires.knows.0 c.requires.knows.1 c.args.ring.sound.shaped.few
     (rw ((the_y at.close).is ∙ high at.is, (the_y to.close).is ∙ high to.is) at low)
     (rw ((the_x at.close).is ∙ east at.is, (the_x to.close).is ∙ east to.is) at west)
     (λ m. search (digits m, back m))

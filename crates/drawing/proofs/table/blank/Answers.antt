@@ -10,12 +10,12 @@ loop-i-init c = (omega arith, rows_none)
 
 pub loop-i-preserved : goal.loop-i-preserved
 loop-i-preserved c =
-    let few = c.requires.shaped.few in
-    let l = c.loop-i-test.true in
-    (omega (arith, l), rows_more few l c.loop-i.invariant.1 c.blank_row.ensures)
+    let few = c.args.ring.sound.shaped.few in
+    let l = rw c.count-n.ensures at c.loop-i-test.true in
+    (omega (arith, l), rows_more few l c.loop-i.invariant.1 (rw c.count-n.ensures at c.blank_row.ensures))
 
 pub returns : goal.returns
 returns c =
-    let all : c.loop-i.i ≡ corners c.args.xy.now =
+    let all : c.loop-i.i ≡ corners c.args.ring.xy.now =
     omega (arith, c.loop-i.invariant.0, c.loop-i-test.false) in
     blank_marked (rw all at c.loop-i.invariant.1)

@@ -5,4 +5,4 @@ use Rattle.drawing.proofs.Blank.{Blank}
 use Rattle.drawing.proofs.table.blank.Given as goal
 
 abbrev pub invariant-loop-i : goal.invariant-loop-i
-invariant-loop-i l = (l.i ≤ corners l.xy) × Blank (corners l.xy) l.i l.initial.cells l.cells
+invariant-loop-i l = (l.i ≤ corners l.ring.xy.now) × Blank (corners l.ring.xy.now) l.i l.initial.cells l.cells

@@ -8,17 +8,16 @@ use Rattle.drawing.proofs.table.fill.Goals as goal
 pub settle-requires : goal.settle-requires
 settle-requires c =
     let marked : let d = c.args in
-    Marked d.xy.now (RowsDone d.xy.now (corners d.xy.now)) d.cells.now c.rows.new.cells =
+    Marked d.ring.xy.now (RowsDone d.ring.xy.now (corners d.ring.xy.now)) d.cells.now c.rows.new.cells =
     c.rows.ensures.grown _ (c.beginnings.ensures.grown _
     (c.neighbours.ensures.grown _ c.blank.ensures)) in
     let m = marked in
-    let h = c.requires in
-    (h.0, h.1, rows_coded m)
+    rows_coded m
 
 pub returns : goal.returns
 returns c =
     let marked : let d = c.args in
-    Marked d.xy.now (RowsDone d.xy.now (corners d.xy.now)) d.cells.now c.rows.new.cells =
+    Marked d.ring.xy.now (RowsDone d.ring.xy.now (corners d.ring.xy.now)) d.cells.now c.rows.new.cells =
     c.rows.ensures.grown _ (c.beginnings.ensures.grown _
     (c.neighbours.ensures.grown _ c.blank.ensures)) in
-    settled_seen c.requires.1 marked c.settle.ensures
+    settled_seen c.args.ring.sound marked c.settle.ensures

@@ -6,4 +6,4 @@ use Rattle.drawing.proofs.Neighbours.{NextDone}
 use Rattle.drawing.proofs.table.neighbours.Given as goal
 
 abbrev pub invariant-loop-i : goal.invariant-loop-i
-invariant-loop-i l = (l.i ≤ corners l.xy) × Grows l.xy None (NextDone l.xy l.i) l.initial.cells l.cells
+invariant-loop-i l = (l.i ≤ corners l.ring.xy.now) × Grows l.ring.xy.now None (NextDone l.ring.xy.now l.i) l.initial.cells l.cells

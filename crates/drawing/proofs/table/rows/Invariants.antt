@@ -13,8 +13,8 @@ invariant-loop-k l = record {
   can_next : (goal.iterator-loop-k).can_next l.k-iterator;
   is_finite : (goal.iterator-loop-k).is_finite l.k-iterator;
   scan : Scan l.initial.k-iterator.0 l.k-iterator.0 (λ k. k ≡ k);
-  grown : Grows l.xy (RowsDone l.xy l.i) (RowDone l.xy l.i l.k-iterator.0) l.initial.cells l.cells;
+  grown : Grows l.ring.xy.now (RowsDone l.ring.xy.now l.i) (RowDone l.ring.xy.now l.i l.k-iterator.0) l.initial.cells l.cells;
 }
 
 abbrev pub invariant-loop-i : goal.invariant-loop-i
-invariant-loop-i l = (l.i ≤ corners l.xy) × Grows l.xy (Early l.xy) (RowsDone l.xy l.i) l.initial.cells l.cells
+invariant-loop-i l = (l.i ≤ corners l.ring.xy.now) × Grows l.ring.xy.now (Early l.ring.xy.now) (RowsDone l.ring.xy.now l.i) l.initial.cells l.cells
