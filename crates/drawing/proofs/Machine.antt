@@ -118,20 +118,14 @@ module _ {a b c d p q r s : Point} (e : a ≡ p) (f : b ≡ q) (g : c ≡ r) (h 
   pub meets_as : (w : Met) → Meets a b c d w → Meets p q r s w
   meets_as w x = subst (λ z. z) (λ i. Meets (e i) (f i) (g i) (h i) w) x
 
--- ---- `||` and `&&`, by the branch that ran: the value is the first test's, or the second's
+-- ---- `||`, by the branch that ran: the value is the first test's, or the second's
 module _ {v a : Bool} {P Q : Type 0} (first : Tells a P) where
   pub or_first : v ≡ a → a ≡ true → Tells v (P ⊎ Q)
   or_first is e = rw is (rw e (surely (inl (if_yes first e))))
 
-  pub and_first : v ≡ a → a ≡ false → Tells v (P × Q)
-  and_first is e = rw is (rw e (never (λ h. if_no first e h.0)))
-
   module _ {b : Bool} (second : Tells b Q) where
     pub or_second : v ≡ b → a ≡ false → Tells v (P ⊎ Q)
     or_second is e = rw is (or_tells (never (if_no first e)) second)
-
-    pub and_second : v ≡ b → a ≡ true → Tells v (P × Q)
-    and_second is e = rw is (and_tells (surely (if_yes first e)) second)
 
 -- two places are compared coordinate by coordinate
 by_decides : {b : Bool} {P : Type 0} → Decides b P → Tells b P

@@ -39,7 +39,8 @@ loop-k-preserved c =
     let room : all_cells ≤ length c.loop-k.cells = omega (arith, loop.grown.size) in
     let d = c.args.ring.xy.now in
     let begun = RowBegunTo d c.args.i in
-    let told = side_begun c.args.ring.sound c.requires.corner _ _ side.0 side.1 loop.scan.fits n.0 n.1 _ _ room c.along_side.ensures in
+    let told = side_begun c.args.ring.sound c.requires.corner _ _ side.0 side.1 loop.scan.fits n.0 n.1 _ _ room
+    c.along_side.ensures in
     record {
       can_next = tt;
       is_finite = tt;

@@ -10,5 +10,5 @@ invariant-loop-k l = record {
   can_next : (goal.iterator-loop-k).can_next l.k-iterator;
   is_finite : (goal.iterator-loop-k).is_finite l.k-iterator;
   scan : Scan l.along l.k-iterator.0 (λ k. k ≡ k);
-  grown : Grows l.ring.xy.now (Begun l.ring.xy.now l.i) (RowBegunTo l.ring.xy.now l.i l.k-iterator.0) l.initial.cells l.cells;
+  grown : let d = l.ring.xy.now in Grows d (Begun d l.i) (RowBegunTo d l.i l.k-iterator.0) l.initial.cells l.cells;
 }

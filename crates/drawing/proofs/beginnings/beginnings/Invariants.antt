@@ -5,4 +5,6 @@ use Rattle.drawing.specs.Table.{Begun, Grows}
 use Rattle.drawing.proofs.beginnings.beginnings.Given as goal
 
 abbrev pub invariant-loop-i : goal.invariant-loop-i
-invariant-loop-i l = (l.i ≤ corners l.ring.xy.now) × Grows l.ring.xy.now (Beside l.ring.xy.now) (Begun l.ring.xy.now l.i) l.initial.cells l.cells
+invariant-loop-i l =
+    let d = l.ring.xy.now in
+    (l.i ≤ corners d) × Grows d (Beside d) (Begun d l.i) l.initial.cells l.cells

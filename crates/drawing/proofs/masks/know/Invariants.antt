@@ -9,7 +9,8 @@ use Rattle.drawing.proofs.masks.know.Given as goal
 
 abbrev pub invariant-loop-t : goal.invariant-loop-t
 invariant-loop-t l =
-    (l.t ≤ corners l.ring.xy.now) × Made (corners l.ring.xy.now) l.t l.all (λ k. k ≡ k) × Made (corners l.ring.xy.now) l.t l.left (Left l.ring.xy.now l.i)
-    × Made (corners l.ring.xy.now) l.t l.flat (OnLine l.ring.xy.now l.i)
-    × Made (corners l.ring.xy.now) l.t l.low (Low l.ring.xy.now l.i) × Made (corners l.ring.xy.now) l.t l.west (West l.ring.xy.now l.i)
-    × (l.t < corners l.ring.xy.now → Away l.ring.xy.now l.i (after l.ring.xy.now (corners l.ring.xy.now - (l.t + 1))) l.end)
+    let d = l.ring.xy.now in
+    (l.t ≤ corners d) × Made (corners d) l.t l.all (λ k. k ≡ k) × Made (corners d) l.t l.left (Left d l.i)
+    × Made (corners d) l.t l.flat (OnLine d l.i)
+    × Made (corners d) l.t l.low (Low d l.i) × Made (corners d) l.t l.west (West d l.i)
+    × (l.t < corners d → Away d l.i (after d (corners d - (l.t + 1))) l.end)

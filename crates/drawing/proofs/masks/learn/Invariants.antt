@@ -8,4 +8,6 @@ use Rattle.drawing.specs.Known.{AllKnown}
 use Rattle.drawing.proofs.masks.learn.Given as goal
 
 abbrev pub invariant-loop-i : goal.invariant-loop-i
-invariant-loop-i l = (l.i ≤ corners l.ring.xy.now) × AllKnown l.ring.xy.now l.i l.known × (length l.known ≡ most_corners)
+invariant-loop-i l =
+    let d = l.ring.xy.now in
+    (l.i ≤ corners d) × AllKnown d l.i l.known × (length l.known ≡ most_corners)

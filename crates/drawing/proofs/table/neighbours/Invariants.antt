@@ -6,4 +6,6 @@ use Rattle.drawing.proofs.Neighbours.{NextDone}
 use Rattle.drawing.proofs.table.neighbours.Given as goal
 
 abbrev pub invariant-loop-i : goal.invariant-loop-i
-invariant-loop-i l = (l.i ≤ corners l.ring.xy.now) × Grows l.ring.xy.now None (NextDone l.ring.xy.now l.i) l.initial.cells l.cells
+invariant-loop-i l =
+    let d = l.ring.xy.now in
+    (l.i ≤ corners d) × Grows d None (NextDone d l.i) l.initial.cells l.cells

@@ -13,8 +13,10 @@ invariant-loop-k l = record {
   can_next : (goal.iterator-loop-k).can_next l.k-iterator;
   is_finite : (goal.iterator-loop-k).is_finite l.k-iterator;
   scan : Scan l.initial.k-iterator.0 l.k-iterator.0 (λ k. k ≡ k);
-  grown : Grows l.ring.xy.now (RowsDone l.ring.xy.now l.i) (RowDone l.ring.xy.now l.i l.k-iterator.0) l.initial.cells l.cells;
+  grown : let d = l.ring.xy.now in Grows d (RowsDone d l.i) (RowDone d l.i l.k-iterator.0) l.initial.cells l.cells;
 }
 
 abbrev pub invariant-loop-i : goal.invariant-loop-i
-invariant-loop-i l = (l.i ≤ corners l.ring.xy.now) × Grows l.ring.xy.now (Early l.ring.xy.now) (RowsDone l.ring.xy.now l.i) l.initial.cells l.cells
+invariant-loop-i l =
+    let d = l.ring.xy.now in
+    (l.i ≤ corners d) × Grows d (Early d) (RowsDone d l.i) l.initial.cells l.cells
