@@ -21,8 +21,10 @@ fn line(head: &[u8], rest: &[u8], out: &mut [u8], at: usize) -> usize
     if rest.len() >= room.div_ceil(2).saturating_sub(head.len()) {
         return at;
     }
-    let next = put_all(head, out, at);
-    let end = put_all(rest, out, next);
+    let next = at + 2 * head.len();
+    let end = next + 2 * rest.len();
+    put_all(head, &mut out[at..next]);
+    put_all(rest, &mut out[next..end]);
     out[end] = LINE_FEED;
     end + 1
 }

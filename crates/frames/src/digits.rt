@@ -29,25 +29,13 @@ fn digit_of(v: u8) -> u8
     if v < 10 { b'0' + v } else { b'A' + (v - 10) }
 }
 
-// The two digits of a byte.
-fn put(byte: u8, out: &mut [u8], at: usize)
-    requires { at + 1 < length out.old }
-    ensures { out.new ≡ sets out.old at (digits_of (byte ∷ [])) }
+// The digits of some bytes, two for each, fill `out`.
+pub fn put_all(bytes: &[u8], out: &mut [u8])
+    requires { length out.old ≡ 2 * length bytes.now }
+    ensures { out.new ≡ digits_of bytes.now }
 {
-    out[at] = digit_of(byte / 16);
-    out[at + 1] = digit_of(byte % 16);
-}
-
-// The digits of some bytes, and the place after them.
-pub fn put_all(bytes: &[u8], out: &mut [u8], at: usize) -> usize
-    requires { at + 2 * length bytes.now ≤ length out.old }
-    ensures value { result ≡ at + 2 * length bytes.now }
-    ensures out_after { out.new ≡ sets out.old at (digits_of bytes.now) }
-{
-    let mut to = at;
-    for byte in bytes {
-        put(*byte, out, to);
-        to += 2;
+    for (i, byte) in bytes.iter().enumerate() {
+        out[2 * i] = digit_of(*byte / 16);
+        out[2 * i + 1] = digit_of(*byte % 16);
     }
-    to
 }

@@ -67,7 +67,7 @@ fn begin(tag: u8, digits: usize, value: u32) -> Result<After, Fault>
 }
 
 impl Line {
-    pub fn blank() -> Line
+    pub(crate) fn blank() -> Line
         ensures { result ≡ nothing_read }
     {
         Line::Head {
@@ -95,7 +95,7 @@ impl Line {
     }
 
     // The next character of a line whose frame has the first byte `tag`; its numbers go into `numbers`.
-    pub fn read(self, tag: u8, c: u8, numbers: &mut [i32]) -> Result<After, Fault>
+    pub(crate) fn read(self, tag: u8, c: u8, numbers: &mut [i32]) -> Result<After, Fault>
         ensures { (result, numbers.new) ≡ reads tag self numbers.old c }
     {
         let Some(digit) = worth(c) else {

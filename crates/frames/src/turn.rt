@@ -18,7 +18,7 @@ pub enum Step {
 
 impl Reader {
     #[tactic(auto, unfolding(crate::specs::Reader::steps))]
-    pub fn take(self, c: u8, first: &mut [i32], second: &mut [i32]) -> Result<Step, Fault>
+    pub(crate) fn take(self, c: u8, first: &mut [i32], second: &mut [i32]) -> Result<Step, Fault>
         ensures { (result, first.new, second.new)
             ≡ steps self first.old second.old c }
     {

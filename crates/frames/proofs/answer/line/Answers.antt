@@ -1,5 +1,5 @@
 -- `line`: no room, and the line laid in three stores.
-use Rattle.std.proofs.Common.{arith}
+use Rattle.std.proofs.Common.{refl, arith}
 use Rattle.frames.proofs.Writing.{line_written, line_refused}
 use Rattle.frames.proofs.answer.line.Goals as goal
 
@@ -11,5 +11,5 @@ returns-then-rest-saturating_sub c =
 pub returns : goal.returns
 returns c =
     let a = c.args in
-    line_written a.head.now a.rest.now a.out.now a.at (omega arith) c.put_all-next.ensures.out_after
-    c.put_all-next.ensures.value c.put_all-end.ensures.out_after c.put_all-end.ensures.value
+    line_written a.head.now a.rest.now a.out.now a.at (omega arith) refl refl (omega arith) (omega arith)
+    c.put_all.ensures c.put_all-2.ensures
