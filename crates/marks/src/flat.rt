@@ -5,7 +5,8 @@ ghost use Rattle.marks.specs.Flat.{flat, CarriesFlat};
 
 use crate::{Carried, Mark, Refusal, carry};
 
-// `lands` is 1 with a place and 0 without; without one the steps and rests are 0.
+// `lands` is 1 with a place and 0 without; without one the steps and rests are 0. A flag beside its values, and a
+// number for a refusal: C has neither Option nor Result.
 #[repr(C)]
 #[derive(Clone, Copy)]
 pub struct Flat {

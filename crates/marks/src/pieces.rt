@@ -5,7 +5,8 @@ ghost use Rattle.marks.specs.Parts.{Told, Takes, Gives, IsFan};
 
 use crate::wedge::Wedge;
 
-// Pieces, one after another, as bytes tell them: k, the centre, the k corners.
+// Pieces, one after another, as bytes tell them: k, the centre, the k corners. `checker` has such an iterator for
+// bytes from anywhere, and it stops where they are no piece. These are known to be pieces, and none may be left out.
 #[derive(Drop)]
 pub struct Pieces<'a> {
     pub told: &'a [u8],

@@ -11,7 +11,8 @@ use crate::sizes::Coordinates;
 use limits::FURTHEST;
 
 impl Coordinates {
-    // The mark, where it is within the limits.
+    // The mark, where it is within the limits. An Option and no `TryFrom`: there is no error to tell, as what is
+    // refused hangs on the pair.
     pub fn of(mark: Mark) -> Option<Coordinates>
         ensures { Within (point_of mark) result }
     {
@@ -37,7 +38,9 @@ impl Coordinates {
     }
 }
 
-// 01's Turn(a, b, c): twice the area of three corners, above zero where they turn left.
+// 01's Turn(a, b, c): twice the area of three corners, above zero where they turn left. `drawing` has one of its own:
+// its points are differences of corners too, twice as far from 0, so their type can't promise what this one does, and
+// a call that another crate can name may ask for nothing.
 fn turn(a: Coordinates, b: Coordinates, c: Coordinates) -> i64
     ensures is { result ≡ turn_of (point a) (point b) (point c) }
     ensures small { nat_abs result ≤ most_area }

@@ -33,8 +33,8 @@ impl Weights {
         })
     }
 
-    // One axis of the place, where i, j, k are the corners' coordinates on it. The weights add up to an area: the sum
-    // stays below 2^63.
+    // One axis of the place, where i, j, k are the corners' coordinates on it. The weights add up to an area: they fit
+    // i64, and the sum stays below 2^63.
     fn along(self, i: i64, j: i64, k: i64) -> Axis
         requires { Reach i j k }
         ensures { InSteps (sum self i j k) self.whole result }
