@@ -50,7 +50,9 @@ fn alike(first: &[i32], second: &[i32]) -> bool
     ensures { Tells result (Alike first.now second.now) }
 {
     let n = first.len() / 2;
-    first.len() == 2 * n && second.len() == first.len() && FEWEST_CORNERS <= n && n <= MOST_CORNERS
+    first.len() == 2 * n
+        && second.len() == first.len()
+        && (FEWEST_CORNERS..=MOST_CORNERS).contains(&n)
 }
 
 // The line that applies to one of the drawings, by what is wrong with it.
