@@ -1,10 +1,10 @@
 -- `lanes::sweep`: the corners before b are tried.
 use native.Mathlib.Omega.{arith}
-use Rattle.cutting.proofs.Rows.{swept_none, swept_more, swept_end}
+use Rattle.cutting.proofs.Rows.{blank, swept_none, swept_more, swept_end}
 use Rattle.cutting.proofs.lanes.sweep.Goals as goal
 
 pub loop-b-init : goal.loop-b-init
-loop-b-init c = (omega arith, swept_none c.requires.1)
+loop-b-init c = (omega arith, swept_none blank)
 
 pub loop-b-preserved : goal.loop-b-preserved
 loop-b-preserved c =
