@@ -3,11 +3,12 @@
 use mathlib.Core.Path.{◌≡◌, refl}
 use mathlib.Core.Logic.{inr}
 use mathlib.Core.List.{List}
-use Prim.Native.Nat.{ℕ}
+use Prim.Native.Nat.{ℕ, ◌≤◌}
 use native.Mathlib.Omega.{arith}
 use lib.ListN.{length}
 use Rattle.limits.specs.Limits.{all_cells, Roomy}
 use Rattle.rules.specs.Cells.{marked}
+use Rattle.rules.specs.Plan.{FirstBy}
 use Rattle.std.specs.Prelude.{Ok}
 use Rattle.std.specs.Prelude as std
 use Rattle.cutting.specs.Answer as cutting
@@ -17,7 +18,12 @@ use Rattle.telling.specs.declared.Told.{Told}
 use Rattle.telling.specs.First.{served_told, first_given}
 use Rattle.desk.specs.Answer.{result_of}
 use Rattle.desk.specs.Stages.{Served, Cuts}
-use Rattle.desk.specs.Parts.{FirstMarked}
+
+-- the first smallest cutting of the cells stands in `pairs`
+pub record FirstMarked (n : ℕ) (first second pairs : List ℕ) : Type 0 where
+  pub served : Served n first second
+  pub whole : all_cells ≤ length pairs
+  pub is_first : FirstBy (cutting.plan first second) n (marked pairs)
 
 module _ {n : ℕ} {first second : List ℕ} where
   pub searched_marked : {pairs pairs' : List ℕ} {r : std.Result Unit Refusal} → Served n first second →

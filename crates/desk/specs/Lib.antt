@@ -4,5 +4,3 @@ pub mod Answer
 pub mod Unique
 -- ---- the stages by themselves, for C: what each call promises, and that no second result fits
 pub mod Stages
--- ---- the private functions' promises
-pub mod Parts

@@ -10,5 +10,5 @@ pub mod Unique
 -- what is served is told, and of the first smallest cutting that is 01's layout
 pub mod First
 -- ---- what the functions promise each other
--- runs of stores, and pieces in a buffer
+-- what is written to a slice, a piece by its corners, and pieces one after another
 pub mod Parts

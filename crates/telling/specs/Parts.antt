@@ -1,4 +1,5 @@
--- What the functions promise each other: what is told of the cells, runs of stores, and pieces in a buffer.
+-- What the functions promise each other: what is told of the cells, what is written to a slice, a piece by its
+-- corners, and pieces one after another.
 use Rattle.std.specs.Prelude.{◌≡◌, List, ◌∷◌, ◌++◌, ℕ, ◌+◌, ◌-◌, ◌<◌, ◌≤◌, length, get_or, take, drop}
 use Rattle.std.specs.List.{All}
 use denote.Ref.{Bor}
