@@ -1,4 +1,5 @@
--- What must come back for a call, as a text has it: three numbers, or none where one of them is missing. To be believed.
+-- What must come back for a call, as a text has it: three numbers, or none where one of them is missing. To be
+-- believed.
 use Rattle.std.specs.Prelude.{Option, Some, None, ℕ}
 use Rattle.trials.specs.declared.reply.Reply.{Reply}
 

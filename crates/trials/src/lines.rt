@@ -35,7 +35,8 @@ pub struct Tally {
 }
 
 impl fmt::Display for Tally {
-    ghost output = { λ t. Some (decimal t.calls ++ codes " calls, " ++ decimal t.differences ++ codes " differences") };
+    ghost output = { λ t.
+        Some (decimal t.calls ++ codes " calls, " ++ decimal t.differences ++ codes " differences") };
 
     fn fmt<W: fmt::Write>(&self, f: &mut fmt::Formatter<W>) -> fmt::Result {
         write!(f, "{} calls, {} differences", self.calls, self.differences)
