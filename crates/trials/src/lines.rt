@@ -3,6 +3,7 @@ ghost use Rattle.std.specs.Prelude.{Some, codes, ◌++◌, ◌≡◌, ◌≢◌,
 ghost use Rattle.std.specs.Fmt.{decimal};
 ghost use Rattle.recorded.specs.Decimals.{word_start};
 ghost use Rattle.trials.specs.Names.{call_text};
+ghost use Rattle.trials.specs.Steps.{Each};
 
 use crate::TEXT;
 use recorded::words::Words;
@@ -67,10 +68,8 @@ pub fn lines<F: FnMut(&mut Words, Call) -> Option<bool>>(
     ensures calls { result.calls ≤ length text.now }
     ensures none { result.calls ≡ 0 → length text.now ≤ word_start text.now 0 }
     ensures differences { result.differences ≤ result.calls }
-    ensures right { ((f : F) (w : _) (call : _) (r : _) (w' : _) (f' : F) → F.step f w call r w' f' → r ≡ Some true)
-        → result.differences ≡ 0 }
-    ensures wrong { ((f : F) (w : _) (call : _) (r : _) (w' : _) (f' : F) → F.step f w call r w' f' → r ≢ Some true)
-        → result.differences ≡ result.calls }
+    ensures right { Each F.step (λ r. r ≡ Some true) → result.differences ≡ 0 }
+    ensures wrong { Each F.step (λ r. r ≢ Some true) → result.differences ≡ result.calls }
 {
     let mut words = Words::new(text);
     let mut tally = Tally {
@@ -103,10 +102,8 @@ pub fn file<F: FnMut(&mut Words, Call) -> Option<bool>>(
     requires { F.IsAlwaysCallable tried }
     ensures calls { result.calls ≤ TEXT }
     ensures differences { result.differences ≤ result.calls }
-    ensures right { ((f : F) (w : _) (call : _) (r : _) (w' : _) (f' : F) → F.step f w call r w' f' → r ≡ Some true)
-        → result.differences ≡ 0 }
-    ensures wrong { ((f : F) (w : _) (call : _) (r : _) (w' : _) (f' : F) → F.step f w call r w' f' → r ≢ Some true)
-        → result.differences ≡ result.calls }
+    ensures right { Each F.step (λ r. r ≡ Some true) → result.differences ≡ 0 }
+    ensures wrong { Each F.step (λ r. r ≢ Some true) → result.differences ≡ result.calls }
 {
     let mut text = [0u8; TEXT];
     let n = loading::load(rt, name, &mut text);
