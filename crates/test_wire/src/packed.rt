@@ -14,7 +14,7 @@ struct Case<'a> {
     rest: &'a [u8],
 }
 
-// How many cases there are, and how many came out otherwise.
+// How many cases there are, and how many came out otherwise. `trials` counts calls, and says so in what it prints.
 #[derive(Drop)]
 pub struct Tally {
     pub count: u64,
@@ -47,7 +47,8 @@ fn first(packed: &[u8]) -> Option<Case<'_>>
     })
 }
 
-// Each case by itself.
+// Each case by itself. No index is counted here: what is left gets shorter. An iterator over the cases would be used
+// once, and is longer than this loop.
 pub fn cases(rt: &impl Print, packed: &[u8]) -> Tally {
     let mut tally = Tally {
         count: 0,

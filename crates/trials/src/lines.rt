@@ -58,7 +58,8 @@ impl Tally {
 }
 
 // Each line of the text, tried in turn: what gives whether its call came out right, or none where the line cannot be
-// read. That is told, counts as a difference and ends the text.
+// read. That is told, counts as a difference and ends the text. Of the closure it is asked only that it may be called,
+// as of any that is called here: one that needs nothing of its arguments can be passed.
 pub fn lines<F: FnMut(&mut Words, Call) -> Option<bool>>(
     rt: &impl Print,
     text: &[u8],
