@@ -42,8 +42,8 @@ impl From<Refusal> for u8 {
     }
 }
 
-// What comes back, for C: 01's number, the count of pieces and the count of bytes used. Numbers 1 to 9 come with no
-// pieces and no bytes.
+// What comes back, as the C interface has it: 01's number, the count of pieces and the count of bytes used. Numbers 1
+// to 9 come with no pieces and no bytes.
 #[repr(C)]
 #[derive(Clone, Copy)]
 pub struct Outcome {
