@@ -11,7 +11,8 @@ pub const LINE_LIMIT: usize = 4096;
 // The numbers that say what is asked.
 const MARK: u32 = 1;
 
-// Where a mark lands: how many numbers each drawing has, which stand in two buffers, and the mark.
+// Where a mark lands: how many numbers each drawing has, and the mark. The numbers stand in two buffers that are lent,
+// as no memory is taken; a slice here would keep them lent.
 #[derive(Clone, Copy)]
 pub struct Question {
     pub first: usize,

@@ -96,6 +96,7 @@ impl<'a> Words<'a> {
         ensures bound { IfSome result (λ n. n ≤ most) }
         ensures place { Moved self.old self.new (after self.old.text.now self.old.at) }
     {
+        // As in Rust, no `From` leads from 32 bits to a `usize`.
         let n = self.natural()? as usize;
         (n <= most).then_some(n)
     }
@@ -128,7 +129,8 @@ impl<'a> Words<'a> {
         Some(n)
     }
 
-    // What a call must leave: the bytes that the text has (how many, then each), and after them what was there.
+    // What a call must leave: the bytes that the text has (how many, then each), and after them what was there. It is
+    // no `list` of bytes: behind its numbers `list` keeps what was lent, and here that is filled first.
     pub fn left(&mut self, out: &mut [u8]) -> Option<usize>
         ensures value { result ≡ counted_bytes self.old.text.now self.old.at (length out.old) }
         ensures bound { IfSome result (λ n. n ≤ length out.old) }
