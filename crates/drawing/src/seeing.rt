@@ -17,7 +17,8 @@ use crate::masks::Known;
 use crate::segment::{Met, dot, meet, turn};
 
 // What a cell holds while sight is told: 0 for a pair of which nothing is known yet or neither sees the other, 2 for a
-// centre's sight alone, 3 for both kinds, and GRAZED + k where corner k lies between the two.
+// centre's sight alone, 3 for both kinds, and GRAZED + k where corner k lies between the two. Numbers and no enum: the
+// cells are the caller's bytes, and `Sight` promises 0, 2 and 3 of them.
 pub const SEEN_BY_CENTRES: u8 = 2;
 
 pub const SEEN: u8 = 3;
@@ -25,7 +26,8 @@ pub const SEEN: u8 = 3;
 pub const GRAZED: u8 = 4;
 
 // Corner i is inside the angle at j. The cheapest test comes first: the other angle, and only then the sides. Inside
-// both angles the sides at i and j are clear; of the others a few are looked at.
+// both angles the sides at i and j are clear; of the others a few are looked at. A corner's number and what it knows
+// stay two parameters: a struct of the two would be made for each pair alone, and taken apart here.
 pub fn look(ring: Ring, i: usize, a: Known, j: usize, b: Known) -> u8
     requires corners { (i < corners ring.xy.now) × (j < corners ring.xy.now) }
     requires angle { Angle ring.xy.now j i × Knows ring.xy.now i a × Knows ring.xy.now j b }

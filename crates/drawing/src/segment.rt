@@ -62,7 +62,8 @@ fn touch(a: Place, b: Place, c: Place, d: Place) -> bool
     an_end_on(a, b, c, d) || an_end_on(c, d, a, b)
 }
 
-// How the segment a b meets c d. That the line of c d does not have a and b strictly on one side is known.
+// How the segment a b meets c d. That the line of c d does not have a and b strictly on one side is known. Each end
+// has a test of its own, and no `||`: must-fail/grazing_line_is_sight.edit speaks of the first end alone.
 pub fn meet(a: Place, b: Place, c: Place, d: Place) -> Met
     requires close { Close (point a) × Close (point b) × Close (point c) × Close (point d) }
     requires reached { Reached (point a) (point b) (point c) (point d) }
