@@ -8,7 +8,7 @@ use mathlib.Core.Logic.{by_cases}
 use native.Mathlib.Decide.{dec_lt}
 use native.Mathlib.Numerals.{add-one}
 use Rattle.recorded.specs.Decimals.{natural, whole, above, below}
-use Rattle.recorded.specs.Digits.{with_digit, number, stuck, word_read}
+use Rattle.recorded.specs.Digits.{with_digit, number, stuck, word_read, empty_word}
 
 module _ (w : List ℕ) (i m : ℕ) (h : i < length w) (read : number (Some m) (drop i w) ≡ number (Some 0) w) where
   pub one_more : (r : Option ℕ) → r ≡ with_digit (Some m) (get_or w i 0) →
@@ -23,8 +23,7 @@ natural_is [] h = absurd (omega arith)
 natural_is (c ∷ w) h = word_read c w
 
 pub no_natural : (w : List ℕ) → length w ≡ 0 → None ≡ natural w
-unfolding natural
-no_natural [] e = refl
+no_natural [] e = sym empty_word
 no_natural (c ∷ w) e = absurd (omega arith)
 
 -- ---- a minus in front, and none

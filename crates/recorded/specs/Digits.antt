@@ -48,3 +48,8 @@ same m (c ∷ w) =
 pub word_read : (c : ℕ) (w : List ℕ) → number (Some 0) (c ∷ w) ≡ natural (c ∷ w)
 unfolding natural
 word_read c w = same 0 (c ∷ w)
+
+-- an empty word tells no number
+pub empty_word : natural [] ≡ None
+unfolding natural
+empty_word = refl

@@ -1,9 +1,9 @@
 -- What stands in front of a buffer after a list was read is the list that the text tells.
 use Rattle.std.specs.Prelude.{◌≡◌, refl, Bool, true, false, cond, List, ℕ, zero, suc, ◌<◌, ◌≤◌, ℤ, pos, length, get_or, take, Option, Some, None, unwrap_or}
 use Rattle.std.proofs.Common.{sym, ap, ◌∙◌, arith, lt-ltb, length-take-le, get_or-take, ext_get_or}
-use Rattle.recorded.specs.Decimals.{whole, whole_in, after, all_numbers}
+use Rattle.recorded.specs.Decimals.{whole, whole_in, after, place, all_numbers}
 use Rattle.recorded.specs.Lent.{Holds}
-use Rattle.recorded.specs.Counted.{up_to, first_number, fitting, counted, counted_wholes, list_in, told}
+use Rattle.recorded.specs.Counted.{up_to, first_number, fitting, counted, counted_wholes, list_end, list_in, told}
 
 pub told_length : {A : Type 0} (item : ℕ → A) (n : ℕ) → length (told item n) ≡ n
 told_length item zero = refl
@@ -45,3 +45,9 @@ count_of text at (Some m) n e = count_all (all_numbers whole text at m) m n e
 pub counted_is : (text : List ℕ) (at most n : ℕ) → counted_wholes text at most ≡ Some n →
     n ≡ up_to most (first_number text at)
 counted_is text at most n e = count_of text (after text at) (fitting text at most) n e
+
+-- all numbers or not, the text goes on behind as many words as the first number says; behind that one alone where it
+-- has no room or is none
+pub list_end_is : (text : List ℕ) (at most : ℕ) →
+    list_end text at most ≡ place text (after text at) (up_to most (first_number text at))
+list_end_is text at most = refl

@@ -1,5 +1,5 @@
 // The buffer that is lent to a call.
-ghost use Rattle.std.specs.Prelude.{◌≡◌, length};
+ghost use Rattle.std.specs.Prelude.{◌≡◌};
 ghost use Rattle.recorded.specs.Lent.{unwritten, agreeing, Holds};
 
 // What byte i holds before a call. An answer has no byte above 64 and a cell is 0 or 1: a byte that was written shows.

@@ -1,5 +1,5 @@
 // The words of a text, one after another.
-ghost use Rattle.std.specs.Prelude.{◌≡◌, ◌≤◌, Option, Some, None, pos, length, leb, cond, drop, IfSome};
+ghost use Rattle.std.specs.Prelude.{◌≡◌, ◌≤◌, Option, Some, pos, length, leb, drop, IfSome};
 ghost use Rattle.recorded.specs.Decimals.{blanks, word, word_at, word_start, word_end, first_word, after, place, natural};
 ghost use Rattle.recorded.specs.Decimals.{all_tell, number_in, Moved};
 ghost use Rattle.recorded.specs.Counted.{fitting, counted_wholes, counted_bytes, list_end, list_in, left_in};
@@ -9,7 +9,8 @@ use crate::lent;
 use crate::numbers::Number;
 
 // A text, and the place in it from which the next word is looked for. Nothing is asked of the place: from the end on
-// there is no word, and no word tells no number.
+// there is no word, and no word tells no number. It is the whole text and a place, not a slice of what is left: the
+// clauses cite `word_start`, `after` and `list_end`, which are places of the text, and a slice would not say where.
 #[derive(Clone, Copy)]
 pub struct Words<'a> {
     pub text: &'a [u8],
@@ -90,7 +91,7 @@ impl<'a> Words<'a> {
         self.number()
     }
 
-    // A number up to `most`.
+    // A number up to `most`. That is what `value` says already; callers that cut a slice there need `bound` at hand.
     pub fn up_to(&mut self, most: usize) -> Option<usize>
         ensures value { result ≡ fitting self.old.text.now self.old.at most }
         ensures bound { IfSome result (λ n. n ≤ most) }
@@ -117,7 +118,8 @@ impl<'a> Words<'a> {
     }
 
     // A list that says how long it is, into the front of `out`: how many numbers, then each. Of one that has no room
-    // nothing is read.
+    // nothing is read. The count is told and no slice of `out`: the caller looks at what stands behind the list too.
+    // `bound` as in `up_to`.
     pub fn list(&mut self, out: &mut [i32]) -> Option<usize>
         ensures value { result ≡ counted_wholes self.old.text.now self.old.at (length out.old) }
         ensures bound { IfSome result (λ n. n ≤ length out.old) }
@@ -130,7 +132,8 @@ impl<'a> Words<'a> {
     }
 
     // What a call must leave: the bytes that the text has (how many, then each), and after them what was there. It is
-    // no `list` of bytes: behind its numbers `list` keeps what was lent, and here that is filled first.
+    // no `list` of bytes: behind its numbers `list` keeps what was lent, and here that is filled first. The count is
+    // told, as by `list`.
     pub fn left(&mut self, out: &mut [u8]) -> Option<usize>
         ensures value { result ≡ counted_bytes self.old.text.now self.old.at (length out.old) }
         ensures bound { IfSome result (λ n. n ≤ length out.old) }
