@@ -16,8 +16,8 @@ impl Iterator for EachMark {
         if self.0 == 0 {
             return None;
         }
-        let k = u64::trailing_zeros(self.0) as usize;
-        self.0 = self.0 & (self.0 - 1);
+        let k = self.0.trailing_zeros() as usize;
+        self.0 &= self.0 - 1;
         Some(k)
     }
 }

@@ -46,10 +46,10 @@ fn centre_sees(ring: Ring, cells: &mut [u8; ALL_CELLS], i: usize, j: usize) -> b
     if told < GRAZED {
         return told >= SEEN_BY_CENTRES;
     }
-    let k = (told - GRAZED) as usize;
+    let k = usize::from(told - GRAZED);
     let first = centre_sees(ring, cells, i, k);
     let second = centre_sees(ring, cells, k, j);
     let seen = first & second;
-    put(cells, i, j, SEEN_BY_CENTRES * seen as u8);
+    put(cells, i, j, SEEN_BY_CENTRES * u8::from(seen));
     seen
 }
