@@ -62,10 +62,7 @@ impl<'a> Iterator for Wedges<'a> {
     fn next(&mut self) -> Option<Wedge> {
         let (from, corners) = self.corners.split_first()?;
         self.corners = corners;
-        let to = match corners.first() {
-            Some(to) => *to,
-            None => self.first,
-        };
+        let to = corners.first().copied().unwrap_or(self.first);
         Some(Wedge {
             centre: usize::from(self.centre),
             from: usize::from(*from),
