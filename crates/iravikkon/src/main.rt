@@ -2,9 +2,6 @@
 // bytes between the two and `terminal`, which has all the logic.
 #![tactic(auto)]
 
-ghost use Rattle.std.specs.Prelude.{◌≤◌, length};
-ghost use Rattle.limits.specs.Limits.{most_numbers};
-
 use limits::MOST_NUMBERS;
 use std::io::Read;
 use terminal::{MOST_AT_END, MOST_BEYOND, Session};
@@ -25,11 +22,9 @@ fn turn(
     rt: &impl Print,
     input: &mut impl Read,
     session: Session,
-    first: &mut [i32],
-    second: &mut [i32],
-) -> Session
-    requires { (most_numbers ≤ length first.old) × (most_numbers ≤ length second.old) }
-{
+    first: &mut [i32; MOST_NUMBERS],
+    second: &mut [i32; MOST_NUMBERS],
+) -> Session {
     let mut chunk = [0u8; CHUNK];
     let n = input.read(&mut chunk).unwrap_or(0);
     if n == 0 {
