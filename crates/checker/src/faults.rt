@@ -24,6 +24,7 @@ fn strictly(sight: &[u8], x: u8, y: u8) -> bool
     cell(sight, x, y) % 2 == 1
 }
 
+// (The crates below have no such function: `sees` of `telling` asks that x and y be below ROW; here nothing is asked.)
 fn as_centre(sight: &[u8], x: u8, y: u8) -> bool
     ensures { result ≡ centre_sees sight.now x y }
 {
@@ -49,7 +50,8 @@ impl Piece<'_> {
             .all(|y| as_centre(sight, self.centre, *y))
     }
 
-    // The first of 02's four questions that fails, in its order: a drawing and a kind of fault for each.
+    // The first of 02's four questions that fails, in its order: a drawing and a kind of fault for each. One after the
+    // other, as 02 has them: a loop over the drawings would pick the cells by `Which`, twice, and be no shorter.
     fn fault(&self, place: usize, sights: &Sights) -> Result<(), Fault>
         requires { Corners self.now.corners.now }
         ensures { FirstFailed

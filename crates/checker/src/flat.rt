@@ -29,7 +29,7 @@ fn says(number: u8) -> Verdict
     ensures { result ≡ says number }
 {
     Verdict {
-        number: number,
+        number,
         drawing: 0,
         place: 0,
     }
@@ -39,9 +39,9 @@ fn says_at(number: u8, place: usize, which: Which) -> Verdict
     ensures { result ≡ says_at number place which }
 {
     Verdict {
-        number: number,
+        number,
         drawing: which_number(which),
-        place: place,
+        place,
     }
 }
 

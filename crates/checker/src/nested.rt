@@ -28,40 +28,53 @@ impl Piece<'_> {
             steps.add(step[0], step[1]);
         }
     }
+}
 
-    // The lines of the piece are marked. False where another piece closes on the same line.
-    fn mark(&self, closings: &mut Lines, steps: &mut Lines) -> bool
-        ensures { MarksPiece self.now.corners.now closings.old steps.old closings.new steps.new result }
+// The lines that pieces close on, and the steps of pieces, as far as the pieces are marked.
+#[derive(Drop)]
+struct Marked {
+    closings: Lines,
+    steps: Lines,
+}
+
+impl Marked {
+    // The lines of a piece are marked. False where another piece closes on the same line.
+    fn mark(&mut self, piece: &Piece) -> bool
+        ensures { MarksPiece piece.now.corners.now self.old.closings self.old.steps
+            self.new.closings self.new.steps result }
     {
-        let (first, last) = self.closing();
-        if closings.has(first, last) {
+        let (first, last) = piece.closing();
+        if self.closings.has(first, last) {
             return false;
         }
-        closings.add(first, last);
-        self.mark_steps(steps);
+        self.closings.add(first, last);
+        piece.mark_steps(&mut self.steps);
         true
     }
 
-    // Whether all lines of the piece are where they should be.
-    fn fits(&self, closings: &Lines, steps: &Lines) -> bool
-        ensures { result ≡ fits closings.now steps.now self.now.corners.now }
+    // A loop, as nothing is known after `all` of what its closure has changed.
+    fn mark_all(&mut self, list: &[u8]) -> bool
+        requires { Readable list.now }
+        ensures { MarksAll list.now self.old.closings self.old.steps self.new.closings self.new.steps result }
     {
-        let (first, last) = self.closing();
-        self.corners.is_sorted_by(|x, y| closes(closings, *x, *y)) && steps.has(first, last)
-    }
-}
-
-// A loop, as nothing is known after `all` of what its closure has changed.
-fn mark_all(list: &[u8], closings: &mut Lines, steps: &mut Lines) -> bool
-    requires { Readable list.now }
-    ensures { MarksAll list.now closings.old steps.old closings.new steps.new result }
-{
-    for piece in (Pieces { rest: list }) {
-        if !piece.mark(closings, steps) {
-            return false;
+        for piece in (Pieces { rest: list }) {
+            if !self.mark(&piece) {
+                return false;
+            }
         }
+        true
     }
-    true
+
+    // Whether all lines of a piece are where they should be.
+    fn fits(&self, piece: &Piece) -> bool
+        ensures { result ≡ fits self.now.closings self.now.steps piece.now.corners.now }
+    {
+        let (first, last) = piece.closing();
+        piece
+            .corners
+            .is_sorted_by(|x, y| closes(&self.closings, *x, *y))
+            && self.steps.has(first, last)
+    }
 }
 
 // The line from the first corner of all to the last is a step of no piece: it is marked as if it were.
@@ -69,12 +82,15 @@ pub fn is_cutting(n: usize, list: &[u8]) -> bool
     requires { (fewest_corners ≤ n) × (n ≤ most_corners) × IsList n list.now }
     ensures { TellsCutting n list.now result }
 {
-    let mut closings = Lines::none();
-    let mut steps = Lines::none();
+    let mut marked = Marked {
+        closings: Lines::none(),
+        steps: Lines::none(),
+    };
+    // `n` is 64 at most, and `try_from` would bring a case that cannot come.
     let last = (n - 1) as u8;
-    if !mark_all(list, &mut closings, &mut steps) || !closings.has(0, last) {
+    if !marked.mark_all(list) || !marked.closings.has(0, last) {
         return false;
     }
-    steps.add(0, last);
-    Pieces { rest: list }.all(|piece| piece.fits(&closings, &steps))
+    marked.steps.add(0, last);
+    Pieces { rest: list }.all(|piece| marked.fits(&piece))
 }

@@ -24,7 +24,8 @@ impl<'a> Piece<'a> {
     }
 }
 
-// Bytes that are still to be read. Those that begin with no whole piece stay.
+// Bytes that are still to be read. Those that begin with no whole piece stay. (`marks` has a `Pieces` too, for bytes
+// that are known to be pieces. These may be any, so the iterator stops where a piece should begin and none does.)
 #[derive(Clone, Copy)]
 pub struct Pieces<'a> {
     pub rest: &'a [u8],

@@ -1,7 +1,7 @@
--- `checker::nested::mark_all`: the pieces that are left are still to be marked.
+-- `checker::nested::Marked::mark_all`: the pieces that are left are still to be marked.
 use Rattle.checker.specs.Parts.{as_entry}
 use Rattle.checker.proofs.Passes.{marked_fails, marked_more, marked_end}
-use Rattle.checker.proofs.nested.mark_all.Goals as goal
+use Rattle.checker.proofs.nested.Marked.mark_all.Goals as goal
 
 pub returns-then-not-mark : goal.returns-then-not-mark
 returns-then-not-mark c =
