@@ -11,6 +11,9 @@ ghost use Rattle.rules.specs.Cells as cells;
 
 use limits::{ALL_CELLS, ROW};
 
+// Flat, and no array of rows: 01 names this form for the cells of sight, which a caller lends. `telling` and `drawing`
+// index theirs by themselves: a call that another crate can name asks for nothing, so one for all would have to test
+// each index.
 pub type Table = [u8; ALL_CELLS];
 
 pub fn cell(t: &Table, a: usize, b: usize) -> u8

@@ -31,7 +31,8 @@ pub enum Refusal {
 }
 
 // The tables are filled by the readings, and the set is traced from them, where there is one: the value of the whole
-// range says so. The column is filled anew for each last corner, by the one and by the other.
+// range says so. The column is filled anew for each last corner, by the one and by the other. Whether there is a set
+// is a truth value here and in `find`: no more is to be told, and `frame` makes the Result of it.
 fn work(readings: &Readings, tables: &mut Tables, col: &mut Table, pairs: &mut Table) -> bool
     ensures { FindsBy readings.now pairs.old pairs.new result }
 {

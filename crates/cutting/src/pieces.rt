@@ -41,7 +41,8 @@ impl Tables {
     }
 
     // Whether the road of x from i to j comes before that of y: by the first corner where they differ. The corners of
-    // a road are sought and not counted, so no range goes over them.
+    // a road are sought and not counted, so no range goes over them; and an iterator of a road would have to hold
+    // every parameter of `next`, for this loop and the one of `tracing`.
     fn earlier(&self, col: &Table, i: usize, j: usize, x: usize, y: usize) -> bool
         requires { (x ≤ j) × (y ≤ j) × (i ≤ j) × (j < row) }
         ensures { result ≡ less (rest_in self.now.val self.now.left col.now x j i)
@@ -112,7 +113,9 @@ impl Tables {
         }
     }
 
-    // The centre by which the piece on the line i j is taken, where the lanes of all that serve are there.
+    // The centre by which the piece on the line i j is taken, where the lanes of all that serve are there. The range
+    // is not `i..=j`, which was tried: such a range has a second way out of the loop, and each answer of the proof
+    // would be given twice. So too in `all_ready`.
     fn pick(&self, col: &Table, i: usize, j: usize) -> Option<usize>
         requires { (i < j) × (j < row) }
         ensures { or_row result ≡ pick_in self.now.val self.now.left self.now.right col.now i j }

@@ -34,8 +34,8 @@ fn start(pairs: &mut Table, n: usize)
 }
 
 impl Tables {
-    // The lines of the piece with the centre x on the line i j: from each corner of its road to the next, as it is
-    // sought.
+    // The lines of the piece with the centre x on the line i j: from each corner of its road to the next. The corners
+    // are sought and not counted, so no range goes over them, and no iterator: `earlier` of `pieces` has the reason.
     fn mark(&self, col: &Table, i: usize, j: usize, x: usize, pairs: &mut Table)
         requires { (x ≤ j) × (i ≤ j) × (j < row) × Ticks pairs.old }
         ensures { Marked pairs.old pairs.new i (rest_in self.now.val self.now.left col.now x j i) }

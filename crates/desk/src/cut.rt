@@ -37,7 +37,8 @@ impl From<telling::Refusal> for Refusal {
     }
 }
 
-// Whether n and both arrays of cells are within the limits.
+// Whether n and both arrays of cells are within the limits. They stay slices, as `cutting` and `telling` take them and
+// ask for the lengths themselves; here it is asked before the room is, as 1 comes before 2 in 01's table.
 fn served(n: usize, first: &[u8], second: &[u8]) -> bool
     ensures { Tells result (Served n first.now second.now) }
 {
@@ -62,7 +63,8 @@ fn search(
 }
 
 // The answer by the cells of two drawings: line 1 of 01's table where n or the cells are not within the limits, 2
-// where the room is too small, 9, or what was told. The cuts stand in this function's frame.
+// where the room is too small, 9, or what was told. The cuts stand in this function's frame. `telling` asks for the
+// 5n - 10 bytes again, as it may be called alone; here they are asked for before the search, as 2 comes before 9.
 pub fn cut(n: usize, first: &[u8], second: &[u8], room: &mut [u8]) -> Result<Told, Refusal>
     ensures { Cuts n first.now second.now room.old (result_of result room.new) }
 {

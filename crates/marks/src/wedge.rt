@@ -26,6 +26,8 @@ impl Coordinates {
         })
     }
 
+    // `drawing` has one for points of its own, as it has a `turn`: called from here it would have to ask for the
+    // limits, and a call that another crate can name may ask for nothing.
     fn corner(xy: &[i32], i: usize) -> Coordinates
         requires drawing { InRange xy.now }
         requires below { i < corners xy.now }

@@ -45,7 +45,8 @@ impl From<Refusal> for u8 {
     }
 }
 
-// Whether line 1 does not apply.
+// Whether line 1 does not apply. `drawing::judge` too asks for the shape of a list first, but no call of that crate
+// tells it alone, without the rest of the judgement.
 fn alike(first: &[i32], second: &[i32]) -> bool
     ensures { Tells result (Alike first.now second.now) }
 {
@@ -71,7 +72,8 @@ fn refused(which: Which, unsound: Unsound) -> Refusal
 }
 
 // 01's number for a judgement of the first drawing, 3 to 5, or of the second, 6 to 8; of either, 1 where the list is
-// no drawing and 0 where it is sound.
+// no drawing and 0 where it is sound. The number and no `Refusal`, as it is what C gets, by the stage of `desk` that
+// judges one drawing.
 pub fn number(which: Which, judged: Result<(), Unsound>) -> u8
     ensures { result ≡ number_of which judged }
 {
@@ -83,7 +85,8 @@ pub fn number(which: Which, judged: Result<(), Unsound>) -> u8
 
 // The first of these lines that applies, or nothing where both drawings are sound and have equally many corners. Each
 // drawing is judged once, and the sight of a sound one is told on the way: that of the first where line 1 does not
-// apply, that of the second where none does. Where nothing is told the cells keep their values.
+// apply, that of the second where none does. Where nothing is told the cells keep their values. The cells stay slices:
+// it is promised too what becomes of those that have no room for all rows.
 pub fn sight(
     first: &[i32],
     second: &[i32],

@@ -10,7 +10,8 @@ ghost use Rattle.telling.specs.Parts.{Small, Pieces, Centred};
 
 use crate::cells::{Cells, sees};
 
-// The cells of both drawings.
+// The cells of both drawings. `checker` has such a struct for cells of any length, where each is read with a default:
+// here the length is known, and none is needed.
 #[derive(Clone, Copy)]
 pub struct Sights<'a> {
     pub first: &'a Cells,

@@ -7,7 +7,8 @@
 //     out:  k 0 i . . c d . . j | k 0 ..    The piece is written, and behind it the ranges under its lines, which are
 //                                           read from it.
 //
-// Each writes to the beginning of `out`, and returns how many bytes it wrote.
+// Each writes to the beginning of `out`, and returns how many bytes it wrote. Corners, and how many a piece has,
+// become bytes by `as`: it is proved that they fit, and `try_from` would bring a case that never comes.
 ghost use Rattle.std.specs.Prelude.{◌+◌, ◌<◌, ◌≤◌, length};
 ghost use Rattle.limits.specs.Limits.{row};
 ghost use Rattle.rules.specs.Cells.{marked};
