@@ -22,7 +22,8 @@ fn read_full(input: &mut impl Read, buffer: &mut [u8]) -> usize
     done
 }
 
-// The file of that name, as far as the buffer holds it. One that cannot be opened counts as empty.
+// The file of that name, as far as the buffer holds it. One that cannot be opened counts as empty. How many bytes is
+// told, and no slice: that a slice is no longer than the buffer would be a clause as well.
 pub fn load(files: &impl Files, name: &str, buffer: &mut [u8]) -> usize
     ensures { result ≤ length buffer.new }
 {

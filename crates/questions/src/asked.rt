@@ -11,22 +11,21 @@ pub const LINE_LIMIT: usize = 4096;
 // The numbers that say what is asked.
 const MARK: u32 = 1;
 
-// Where a mark lands: how many numbers each drawing has, and the mark. The numbers stand in two buffers that are lent,
-// as no memory is taken; a slice here would keep them lent.
+// Where a mark lands: the numbers of each drawing, which stand in buffers that are lent, and the mark.
 #[derive(Clone, Copy)]
-pub struct Question {
-    pub first: usize,
-    pub second: usize,
+pub struct Question<'a> {
+    pub first: &'a [i32],
+    pub second: &'a [i32],
     pub mark: Mark,
 }
 
 // The rest of a question about a mark: two drawings, the mark, and no more words.
-fn read_mark(
+fn read_mark<'a>(
     mut words: Words,
-    first: &mut [i32; MOST_NUMBERS],
-    second: &mut [i32; MOST_NUMBERS],
-) -> Option<Question>
-    ensures { IsMark words.entry.text.now words.entry.at first.new second.new result }
+    first: &'a mut [i32; MOST_NUMBERS],
+    second: &'a mut [i32; MOST_NUMBERS],
+) -> Option<Question<'a>>
+    ensures { IsMark words.entry.text.now words.entry.at result }
 {
     let a = words.list(first)?;
     let b = words.list(second)?;
@@ -37,18 +36,18 @@ fn read_mark(
     }
     let [x, y] = mark;
     Some(Question {
-        first: a,
-        second: b,
+        first: &first[..a],
+        second: &second[..b],
         mark: Mark { x, y },
     })
 }
 
-pub fn read(
+pub fn read<'a>(
     line: &[u8],
-    first: &mut [i32; MOST_NUMBERS],
-    second: &mut [i32; MOST_NUMBERS],
-) -> Option<Question>
-    ensures { IsAsked line.now first.new second.new result }
+    first: &'a mut [i32; MOST_NUMBERS],
+    second: &'a mut [i32; MOST_NUMBERS],
+) -> Option<Question<'a>>
+    ensures { IsAsked line.now result }
 {
     if line.len() >= LINE_LIMIT {
         return None;

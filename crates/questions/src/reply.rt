@@ -19,7 +19,7 @@ pub fn reply(line: &[u8]) -> Line
     let mut first = [0i32; MOST_NUMBERS];
     let mut second = [0i32; MOST_NUMBERS];
     match read(line, &mut first, &mut second) {
-        Some(asked) => carried(&first[..asked.first], &second[..asked.second], asked.mark),
+        Some(asked) => carried(asked.first, asked.second, asked.mark),
         None => no_question(),
     }
 }

@@ -10,6 +10,8 @@ use recorded::floats::bits;
 // As long as any answer, and a little more.
 pub type Line = ArrayString<128>;
 
+// Each `push_` function asks for the room that it may take and says that it takes no more, as `push_str` does: no type
+// tells how long a line is already.
 fn push_number<I: Integer>(line: &mut Line, n: I)
     requires { length line.old.bytes + I.MAX_STR_LEN ≤ 128 }
     ensures text { line.new.bytes ≡ line.old.bytes ++ I.text n }

@@ -118,8 +118,8 @@ impl<'a> Words<'a> {
     }
 
     // A list that says how long it is, into the front of `out`: how many numbers, then each. Of one that has no room
-    // nothing is read. The count is told and no slice of `out`: the caller looks at what stands behind the list too.
-    // `bound` as in `up_to`.
+    // nothing is read. The count is told and no slice of `out`: `holds` and `list_told` speak of a count and of the
+    // whole buffer. `bound` as in `up_to`.
     pub fn list(&mut self, out: &mut [i32]) -> Option<usize>
         ensures value { result ≡ counted_wholes self.old.text.now self.old.at (length out.old) }
         ensures bound { IfSome result (λ n. n ≤ length out.old) }
@@ -133,7 +133,7 @@ impl<'a> Words<'a> {
 
     // What a call must leave: the bytes that the text has (how many, then each), and after them what was there. It is
     // no `list` of bytes: behind its numbers `list` keeps what was lent, and here that is filled first. The count is
-    // told, as by `list`.
+    // told, as by `list`; whoever compares what a call left looks at what stands behind the bytes too.
     pub fn left(&mut self, out: &mut [u8]) -> Option<usize>
         ensures value { result ≡ counted_bytes self.old.text.now self.old.at (length out.old) }
         ensures bound { IfSome result (λ n. n ≤ length out.old) }

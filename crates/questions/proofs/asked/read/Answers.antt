@@ -38,4 +38,4 @@ returns c =
     let at : c.natural.new.self.at ≡ after line 0 = goes.place ∙ ap₂ after w.text w.place in
     let same =
     asks_mark line _ c.if-line-ge-LINE_LIMIT.false (sym kind ∙ c.in_ok-natural.was) c.if-branch-ne-MARK.false in
-    subst (λ q. Means q r.new.first r.new.second r.result) (ap₂ mark_question text at ∙ sym same) r.ensures
+    subst (λ q. Means q r.result) (ap₂ mark_question text at ∙ sym same) r.ensures

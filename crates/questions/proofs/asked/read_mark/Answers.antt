@@ -50,9 +50,6 @@ returns c =
     let x = to_z-of_z x_fits ∙ m.holds.each 0 (omega arith) ∙ ap₂ (λ t p. whole_in t p 0) text₂ at₂ in
     let y = to_z-of_z y_fits ∙ m.holds.each 1 (omega arith) ∙ ap₂ (λ t p. whole_in t p 1) text₂ at₂ in
     let all = sym (m.value ∙ ap₂ (λ t p. all_tell whole t p 2) text₂ at₂) ∙ c.in_ok-fill.was in
-    let ends = sym (c.if-not-is_done.ensures.value ∙ ap₂ (λ t p. leb (length t) (word_start t p)) text₃ at₃) in (
-      is_asked line at c.in_ok-a.a c.in_ok-b.b _ _ _ _ (count_is line line at at _ refl refl room₁ a_is)
-          (count_is line _ _ _ _ text₁ at₁ room₂ b_is) all ends first second x y,
-      omega (arith, c.in_ok-a.ensures.bound, a.holds.size),
-      omega (arith, c.in_ok-b.ensures.bound, b.holds.size),
-    )
+    let ends = sym (c.if-not-is_done.ensures.value ∙ ap₂ (λ t p. leb (length t) (word_start t p)) text₃ at₃) in
+    is_asked line at c.in_ok-a.a c.in_ok-b.b _ _ _ _ (count_is line line at at _ refl refl room₁ a_is)
+    (count_is line _ _ _ _ text₁ at₁ room₂ b_is) all ends first second x y
