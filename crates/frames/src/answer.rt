@@ -1,5 +1,6 @@
 // The lines of an answer: each is laid into `out` from `at` on, and the place after it comes back. Where it has no
-// room, nothing is written and `at` comes back.
+// room, nothing is written and `at` comes back. `out` and `at` are not one slice from `at` on: `Written` speaks of all
+// of `out`, and of every `at`, also of one behind its end.
 ghost use Rattle.std.specs.Prelude.{◌++◌};
 ghost use Rattle.frames.specs.Frames.{line_of, answer_line, refusal_line, fault_line};
 ghost use Rattle.frames.specs.Answer.{Written};

@@ -1,6 +1,5 @@
 // Hexadecimal digits.
-ghost use Rattle.std.specs.Prelude.{◌≡◌, ◌+◌, ◌*◌, ◌<◌, ◌≤◌, [], ◌∷◌, length};
-ghost use Rattle.std.proofs.lemmas.List.Edits.{sets};
+ghost use Rattle.std.specs.Prelude.{◌≡◌, ◌*◌, ◌<◌, length};
 ghost use Rattle.frames.specs.Frames.{digit_of, digits_of};
 ghost use Rattle.frames.specs.Reader.{digit_value};
 
@@ -34,6 +33,8 @@ pub fn put_all(bytes: &[u8], out: &mut [u8])
     requires { length out.old ≡ 2 * length bytes.now }
     ensures { out.new ≡ digits_of bytes.now }
 {
+    // By index: tried with `bytes.iter().zip(out.chunks_exact_mut(2))`, after which a proof knows no element of `out`,
+    // and `ensures` speaks of each.
     for (i, byte) in bytes.iter().enumerate() {
         out[2 * i] = digit_of(*byte / 16);
         out[2 * i + 1] = digit_of(*byte % 16);

@@ -19,14 +19,16 @@ const SIX_DIGITS: i32 = 0x100_0000;
 
 const HALF: u32 = 0x80_0000;
 
-// What a byte did to a line that may still be a frame: it goes on, or it is a whole frame of so many numbers.
+// What a byte did to a line that may still be a frame: it goes on, or it is a whole frame of so many numbers. Neither
+// is a failure, so this is no `Result`; one stands around it, for the fault.
 #[derive(Clone, Copy, PartialEq, Eq, Debug)]
 pub enum After {
     On(Line),
     Frame(usize),
 }
 
-// The number of three bytes, in two's complement.
+// The number of three bytes, in two's complement. (`as`: six digits fit, and `try_from` would bring a case that cannot
+// come.)
 fn number(value: u32) -> i32
     requires { value < 0x1000000 }
     ensures { result ≡ two's_complement value }

@@ -70,7 +70,8 @@ pub fn start() -> Reader
 }
 
 // Reads `chunk` from `from` on, up to its end, a pair or a fault. The numbers of the drawings go into `first` and
-// `second`; a frame that has no room there is a fault.
+// `second`; a frame that has no room there is a fault. `chunk` and `from` are not one slice from `from` on: `Feeding`
+// speaks of every `from`, also of one behind the end.
 pub fn feed(
     reader: Reader,
     chunk: &[u8],

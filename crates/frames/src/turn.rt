@@ -9,7 +9,8 @@ const FIRST_TAG: u8 = 0x10;
 
 const SECOND_TAG: u8 = 0x20;
 
-// What a byte did: the reader goes on, or a pair is read, with how many numbers in each drawing.
+// What a byte did: the reader goes on, or a pair is read, with how many numbers in each drawing. Neither is a failure,
+// as with `After`.
 #[derive(Clone, Copy, PartialEq, Eq, Debug)]
 pub enum Step {
     On(Reader),
@@ -17,6 +18,8 @@ pub enum Step {
 }
 
 impl Reader {
+    // Two turns, each with its tag, its buffer and what a whole frame does: one match would choose all three, and be
+    // no shorter.
     #[tactic(auto, unfolding(crate::specs::Reader::steps))]
     pub(crate) fn take(self, c: u8, first: &mut [i32], second: &mut [i32]) -> Result<Step, Fault>
         ensures { (result, first.new, second.new)
