@@ -1,4 +1,5 @@
-// A chunk, pair by pair.
+// A chunk, pair by pair. Each turn of the loop lends `feed` both buffers again and goes on where it ended: no iterator
+// can hold what it lends anew, so this is no `for`.
 ghost use Rattle.std.specs.Prelude.{Some};
 ghost use Rattle.terminal.specs.Running.{Lent, Done};
 

@@ -22,7 +22,8 @@ pub const MOST_BEYOND: usize = LONGEST_LINE + MOST_AT_END;
 // nothing written.
 pub type Session = Option<frames::Reader>;
 
-// The session goes on, and so many bytes are written to the front of the output's buffer.
+// The session goes on, and so many bytes are written to the front of the output's buffer. (A length and no slice of
+// that buffer: `Wrote` speaks of the whole of it, also of the bytes behind what is written.)
 #[derive(Clone, Copy, PartialEq, Eq, Debug)]
 pub struct Ran {
     pub session: Session,

@@ -11,6 +11,8 @@ pub fn reply(first: &[i32], second: &[i32], out: &mut [u8], at: usize) -> usize
 {
     let mut room = [0u8; ROOM];
     match desk::answer(first, second, &mut room) {
+        // `as`: it is proved that an answer has fewer than 256 pieces, and `try_from` would bring a case that cannot
+        // come.
         Ok(told) => frames::answer::answer_line(told.pieces as u8, &room[..told.bytes], out, at),
         Err(refusal) => frames::answer::refusal_line(u8::from(refusal), out, at),
     }
