@@ -33,8 +33,9 @@ pub fn put_all(bytes: &[u8], out: &mut [u8])
     requires { length out.old ≡ 2 * length bytes.now }
     ensures { out.new ≡ digits_of bytes.now }
 {
-    // By index: tried with `bytes.iter().zip(out.chunks_exact_mut(2))`, after which a proof knows no element of `out`,
-    // and `ensures` speaks of each.
+    // By index. Tried with `bytes.iter().zip(out.chunks_exact_mut(2))`, after which a proof knows no element of `out`;
+    // and with `flat_map` to the digits, each then stored at its place, where `search` did not find that the loop may
+    // begin (`loop-i-init`).
     for (i, byte) in bytes.iter().enumerate() {
         out[2 * i] = digit_of(*byte / 16);
         out[2 * i + 1] = digit_of(*byte % 16);
