@@ -24,7 +24,7 @@ fn refused(
         rt,
         Call::Limit(call),
         lent,
-        &due,
+        Some(due),
         &after,
         |room| cut(n, first, second, room),
     ) == Some(true)

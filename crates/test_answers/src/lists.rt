@@ -30,7 +30,7 @@ pub fn tried(rt: &impl Print, words: &mut Words, call: Call) -> Option<bool> {
         rt,
         call,
         lent,
-        &due,
+        due,
         &after,
         |room| answer(&first[..n], &second[..m], room),
     )

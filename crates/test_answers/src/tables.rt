@@ -40,7 +40,7 @@ pub fn tried(rt: &impl Print, words: &mut Words, call: Call) -> Option<bool> {
         rt,
         call,
         lent,
-        &due,
+        due,
         &after,
         |room| cut(n, &first, &second, room),
     )

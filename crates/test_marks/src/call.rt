@@ -30,7 +30,7 @@ pub fn tried<F: Fn(&[i32], &[i32], Mark, &mut [u8]) -> Got>(
         rt,
         call,
         lent,
-        &due,
+        due,
         &after,
         |room| carry(&first[..n], &second[..m], mark, room),
     )

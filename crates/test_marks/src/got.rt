@@ -14,7 +14,8 @@ struct Axis {
     rest: u64,
 }
 
-// `lands` is 1 with a place and 0 without.
+// `lands` is 1 with a place and 0 without. The axes stand beside it, and are no option of a place: what the call for C
+// puts beside a 0 is compared too.
 #[derive(Clone, Copy, PartialEq, Eq)]
 pub struct Got {
     reply: Reply,
@@ -35,25 +36,44 @@ impl From<marks::Axis> for Axis {
 }
 
 impl Axis {
-    // The bits stand as four numbers of 16 bits, high first.
-    fn read(words: &mut Words) -> Option<Axis> {
+    // What must come back for an axis; none where the step cannot be read. The bits stand as four numbers of 16 bits,
+    // high first. Another word there is none that a call gives: then nothing is due.
+    fn read(words: &mut Words) -> Option<Option<Axis>> {
         let step = i64::from(words.number::<i32>()?);
-        let mut rest: u64 = 0;
+        let mut rest = Some(0u64);
         for _ in 0..4 {
-            rest = rest << 16 | u64::from(u16::try_from(words.natural()?).ok()?);
+            let word = words.natural().and_then(|n| u16::try_from(n).ok());
+            rest = rest
+                .zip(word)
+                .map(|(high, word)| high << 16 | u64::from(word));
         }
-        Some(Axis { step, rest })
+        Some(rest.map(|rest| Axis { step, rest }))
     }
 }
 
 impl Got {
-    // What must come back, as a text has it; the buffer that the call must leave is put into `after`.
-    pub fn read(words: &mut Words, after: &mut [u8; BUFFER]) -> Option<Got> {
+    // What must come back, as a text has it; the buffer that the call must leave is put into `after`. None where the
+    // bytes or a step cannot be read. Any other word that is no number is none that a call gives: then nothing is due.
+    pub fn read(words: &mut Words, after: &mut [u8; BUFFER]) -> Option<Option<Got>> {
+        let reply = Reply::read(words, after)?;
+        let lands = words.natural();
+        let x = Axis::read(words)?;
+        let y = Axis::read(words)?;
+        Some(Got::due(reply, lands, x, y))
+    }
+
+    // All of it was read: none where a word is one that no call gives.
+    fn due(
+        reply: Option<Reply>,
+        lands: Option<u32>,
+        x: Option<Axis>,
+        y: Option<Axis>,
+    ) -> Option<Got> {
         Some(Got {
-            reply: Reply::read(words, after)?,
-            lands: words.natural()?,
-            x: Axis::read(words)?,
-            y: Axis::read(words)?,
+            reply: reply?,
+            lands: lands?,
+            x: x?,
+            y: y?,
         })
     }
 }
@@ -98,7 +118,7 @@ pub fn for_c(first: &[i32], second: &[i32], mark: Mark, room: &mut [u8]) -> Got 
             pieces: flat.pieces,
             bytes: flat.bytes,
         },
-        lands: u32::from(flat.lands),
+        lands: u32::from(flat.lands == 1),
         x: Axis {
             step: flat.x_step,
             rest: bits(flat.x_rest),

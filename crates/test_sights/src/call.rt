@@ -46,5 +46,12 @@ pub fn right(
         judged: due,
         sighted: due,
     };
-    held(rt, call, lent, &due, after, |cells| both_say(xy, cells))
+    held(
+        rt,
+        call,
+        lent,
+        Some(due),
+        after,
+        |cells| both_say(xy, cells),
+    )
 }

@@ -1,6 +1,6 @@
 // Many inputs in one file: for each the lengths of its name, of the input and of its output, three bytes each, high
 // byte first, and the bytes of all three.
-ghost use Rattle.std.specs.Prelude.{◌<◌, ◌≤◌, length, IfSome};
+ghost use Rattle.std.specs.Prelude.{◌<◌, length, IfSome};
 
 use crate::replay::tried;
 use crate::report::place;

@@ -16,7 +16,8 @@ pub struct Found {
 }
 
 // What a call wrote, held to the expected output from `met` on: the session, and how many bytes are met then. Where
-// the next one is not, how many are.
+// the next one is not, how many are. `expected` is the whole output and `met` a place in it, not what is left of it:
+// how many bytes were met before the first that differs is what is reported.
 fn held(
     ran: Result<Ran, Short>,
     out: &[u8],

@@ -1,6 +1,11 @@
 -- A call that is lent the front of a buffer, held to what must come back. To be believed.
-use Rattle.std.specs.Prelude.{◌≡◌, Bool, ◌&&◌, List, ◌++◌, ℕ, eqb, length, take, drop}
+use Rattle.std.specs.Prelude.{◌≡◌, Bool, false, ◌&&◌, List, ◌++◌, ℕ, eqb, length, take, drop, Option, Some, None}
 use Rattle.recorded.specs.Lent.{unwritten, agreeing, Holds}
+
+-- Whether what came back is what is due. Nothing is where a text asks for what no call gives, and then it is not.
+abbrev pub gives_due : {G : Type 0} → (G → G → Bool) → Option G → G → Bool
+gives_due eq (Some due) got = eq got due
+gives_due eq None got = false
 
 -- `Gives lent got left` tells what the call may give and leave; `due` tells what must come back, and `after` the whole
 -- buffer as it must be then

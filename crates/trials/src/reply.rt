@@ -10,6 +10,8 @@ use crate::BUFFER;
 use recorded::words::Words;
 use std::fmt;
 
+// Three numbers, as the files have them, and no `Result`: what the call for C puts beside a refusal's number is
+// compared too.
 #[derive(Clone, Copy, PartialEq, Eq)]
 pub struct Reply {
     pub number: u32,
@@ -29,8 +31,10 @@ impl Reply {
         }
     }
 
-    // What must come back, as a text has it; the buffer that the call must leave is put into `buffer`.
-    pub fn read(words: &mut Words, buffer: &mut [u8; BUFFER]) -> Option<Reply>
+    // What must come back, as a text has it; the buffer that the call must leave is put into `buffer`. None where that
+    // cannot be read. A word that is no number, where the number or the pieces stand, is none that a call gives: the
+    // text can be read, and nothing is due.
+    pub fn read(words: &mut Words, buffer: &mut [u8; BUFFER]) -> Option<Option<Reply>>
         ensures value { let text = words.old.text.now in let at = words.old.at in
             result ≡ reply (natural (first_word text at)) (natural (first_word text (after text at)))
             (counted_bytes text (after text (after text at)) (length buffer.old)) }
@@ -41,12 +45,14 @@ impl Reply {
     {
         let number = words.natural();
         let pieces = words.natural();
-        let bytes = words.left(buffer);
-        Some(Reply {
-            number: number?,
-            pieces: pieces? as usize,
-            bytes: bytes?,
-        })
+        let bytes = words.left(buffer)?;
+        Some(
+            number.zip(pieces).map(|(number, pieces)| Reply {
+                number,
+                pieces: pieces as usize,
+                bytes,
+            }),
+        )
     }
 }
 

@@ -2,7 +2,7 @@
 use Rattle.std.proofs.Common.{rules, arith}
 use Rattle.std.proofs.lemmas.Grind.{common_steps}
 use Rattle.trials.proofs.held.held.Goals as goal
-use Rattle.trials.proofs.held.held.Goals.{then-eq, else-eq}
+use Rattle.trials.proofs.held.held.Goals.{then-is_some_and, else-is_some_and}
 
 pub returns : goal.returns
 returns g c = record {
@@ -14,8 +14,8 @@ returns g c = record {
     each = λ k h. c.fill.ensures.each k (search rules);
   };
   gives = search rules;
-  is_right = elim c.if-eq.branch [
-    | then-eq w ↦ grind (arith, common_steps)
-    | else-eq w ↦ grind (arith, common_steps)
+  is_right = elim c.if-is_some_and.branch [
+    | then-is_some_and w ↦ grind (arith, common_steps)
+    | else-is_some_and w ↦ grind (arith, common_steps)
   ];
 }
