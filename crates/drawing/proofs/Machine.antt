@@ -1,15 +1,14 @@
 -- Signed numbers of the machine: what a comparison of two of them tells, coordinates as they are read and held, and
 -- that the products of their differences fit.
 use mathlib.Core.Path.{◌≡◌, refl, sym, ap, ◌∙◌, subst}
-use mathlib.Core.Bool.{Bool, true, false, not, ◌&&◌}
+use mathlib.Core.Bool.{Bool, true, false, not, ◌&&◌, ◌||◌}
 use Rattle.std.specs.Bool.{MatchBool, Decides}
 use Rattle.std.specs.List.{range_with_len, AllWithin, HoldsAt}
 use Rattle.std.proofs.lemmas.List.FromFn.{length-range_with_len, get_or-range_with_len}
-use mathlib.Core.Logic.{◌⊎◌, inl, inr}
+use mathlib.Core.Logic.{◌⊎◌, inl}
 use mathlib.Core.List.{List}
-use Prim.Native.Nat.{ℕ, ◌+◌, ◌*◌, ◌^◌, ◌≤◌, ◌<◌}
+use Prim.Native.Nat.{ℕ, ◌+◌, ◌-◌, ◌*◌, ◌^◌, ◌≤◌, ◌<◌}
 use native.Mathlib.Omega.{arith}
-use lib.Bits.{bit_or}
 use lib.Dec.{eqb}
 use lib.IntN.{ℤ, pos, nat_abs, ◌-ℤ◌, ◌*ℤ◌}
 use lib.ListN.{get_or, length}
@@ -18,7 +17,7 @@ use mir.Syntax.{w32, w64}
 use mir.Val.{to_z, of_z, bool_byte}
 use mir.Facts.{to_z-of_z}
 use borrow.Author.Rules.{sfits_of}
-use Rattle.whole.specs.Masks.{Digit, Made, made_room}
+use Rattle.whole.specs.Masks.{Digit, Made, Marks, made_none, made_more, made_all, made_room}
 use Rattle.whole.specs.Bounds.{Val, fit, par, loc, less, times, near_of}
 use Rattle.limits.specs.Limits.{furthest}
 use Rattle.outline.specs.Drawing.{Point, InRange, turn_of}
@@ -161,42 +160,26 @@ digit {b = true} t = record { small = digit_small true; one = λ e. t.sure tt; n
 digit {b = false} t = record { small = digit_small false; one = λ e. absurd (omega arith); nought = λ e p. t.told p }
 
 -- of two tests, either
-pub either_small : (b c : Bool) → bit_or (bool_byte b) (bool_byte c) < 2
-either_small true true = omega arith
-either_small true false = omega arith
-either_small false true = omega arith
-either_small false false = omega arith
+pub either : {b c : Bool} {P Q : Type 0} → Tells b P → Tells c Q → Digit (bool_byte (b || c)) (P ⊎ Q)
+either f g = digit (or_tells f g)
 
-pub either : {b c : Bool} {P Q : Type 0} → Tells b P → Tells c Q → Digit (bit_or (bool_byte b) (bool_byte c)) (P ⊎ Q)
-either {b = true} {c = true} f g = record {
-  small = omega arith;
-  one = λ e. inl (f.sure tt);
-  nought = λ e. absurd (omega arith);
-}
-either {b = true} {c = false} f g = record {
-  small = omega arith;
-  one = λ e. inl (f.sure tt);
-  nought = λ e. absurd (omega arith);
-}
-either {b = false} {c = true} f g = record {
-  small = omega arith;
-  one = λ e. inr (g.sure tt);
-  nought = λ e. absurd (omega arith);
-}
-either {b = false} {c = false} {P} {Q} f g = record {
-  small = omega arith;
-  one = λ e. absurd (omega arith);
-  nought = λ e. none;
-}
-  where
-    none : P ⊎ Q → ⊥
-    none (inl p) = f.told p
-    none (inr q) = g.told q
+-- ---- a mask as it is made, from the last number down, as j numbers are left
+module _ {n : ℕ} {P : ℕ → Type 0} where
+  pub made_first : {j : ℕ} → j ≡ n → Made n (n - j) 0 P
+  made_first {j} h = let e : n - j ≡ 0 = omega (arith, h) in rw e made_none
 
--- ---- a mask as it is made: there is room for one digit more, and so for a 0
-module _ {n t m : ℕ} {P : ℕ → Type 0} (l : t < n) (few : n ≤ 64) (made : Made n t m P) where
-  pub digit_fits : (b : Bool) → m * 2 + bool_byte b < 2 ^ 64
-  digit_fits b = made_room l made few (digit_small b)
+  pub made_down : {j m b : ℕ} → 0 < j → j ≤ n → Made n (n - j) m P → Digit b (P (j - 1)) →
+      Made n (n - (j - 1)) (m * 2 + b) P
+  made_down {j} {m} {b} l h s d =
+      let e : n - (j - 1) ≡ n - j + 1 = omega (arith, l, h) in
+      let f : n - (n - j + 1) ≡ j - 1 = omega (arith, l, h) in
+      rw e (made_more (omega (arith, l, h)) s (subst (λ k. Digit b (P k)) (sym f) d))
 
-  pub double_fits : m * 2 < 2 ^ 64
-  double_fits = let r = made_room {b = 0} l made few (omega arith) in omega (arith, r)
+  pub down_room : {j m b : ℕ} → 0 < j → j ≤ n → n ≤ 64 → Made n (n - j) m P → b < 2 → m * 2 + b < 2 ^ 64
+  down_room l h few s small = made_room (omega (arith, l, h)) s few small
+
+  pub made_last : {j m : ℕ} → j ≤ 0 → Made n (n - j) m P → Marks n m P
+  made_last {j} l s = let e : n - j ≡ n = omega (arith, l) in made_all (rw e at s)
+
+  pub all_fits : {j m : ℕ} → j ≤ 0 → Made n (n - j) m P → m < 2 ^ n
+  all_fits {j} l s = let e : n - j ≡ n = omega (arith, l) in let m = rw e at s in m.fits

@@ -35,7 +35,7 @@ fn along_sides(ring: Ring, cells: &mut [u8; ALL_CELLS], i: usize, along: u64)
     }
 }
 
-// Corner i is on the line of side k.
+// Corner i is on the line of side k. The casts lose nothing: a corner's number is below 64.
 fn along_side(ring: Ring, cells: &mut [u8; ALL_CELLS], i: usize, k: usize)
     requires corner { i < corners ring.xy.now }
     requires along { (k < corners ring.xy.now) × Along ring.xy.now i k }

@@ -21,11 +21,10 @@ pub fn angles(known: [Known; MOST_CORNERS], n: usize) -> Bends
 {
     let mut two = 0;
     let mut one = 0;
-    for t in 0..n {
-        let j = n - (t + 1);
+    for j in (0..n).rev() {
         let need = known[j].need;
-        two = two * 2 + (need == 2) as u64;
-        one = one * 2 + (need == 1) as u64;
+        two = two * 2 + u64::from(need == 2);
+        one = one * 2 + u64::from(need == 1);
     }
     Bends { two, one }
 }

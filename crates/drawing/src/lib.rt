@@ -49,7 +49,8 @@ pub fn judge(xy: &[i32]) -> Result<(), Unsound>
 
 // The judgement of `xy`, and where it is sound who sees whom: cell i * 64 + j has a 1 where corner i sees corner j by
 // 01's rule, and 2 more where it sees it as a centre (02, K3). Every other cell keeps its value. Of a drawing that is
-// not sound nothing is told, nor where `cells` has no room for 64 rows.
+// not sound nothing is told, nor where `cells` has no room for 64 rows. `cells` is a slice and no array, since
+// `Sight` promises of cells without that room, too, that they are left as they were.
 pub fn sight(xy: &[i32], cells: &mut [u8]) -> Result<(), Unsound>
     ensures { Sight xy.now cells.old cells.new result }
 {

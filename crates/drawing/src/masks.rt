@@ -55,15 +55,14 @@ fn know(ring: Ring, i: usize) -> Known
     let mut low = 0;
     let mut west = 0;
     let mut end = away(ring, i, 0);
-    for t in 0..n {
-        let k = n - (t + 1);
+    for k in (0..n).rev() {
         let start = away(ring, i, k);
         let s = cross(start, end);
         all = all * 2 + 1;
-        left = left * 2 + (s > 0) as u64;
-        flat = flat * 2 + (s == 0) as u64;
-        low = low * 2 + ((start.y < 0) as u64 | (end.y < 0) as u64);
-        west = west * 2 + ((start.x < 0) as u64 | (end.x < 0) as u64);
+        left = left * 2 + u64::from(s > 0);
+        flat = flat * 2 + u64::from(s == 0);
+        low = low * 2 + u64::from((start.y < 0) | (end.y < 0));
+        west = west * 2 + u64::from((start.x < 0) | (end.x < 0));
         end = start;
     }
     let h = ring.prev(i);

@@ -8,6 +8,8 @@ ghost use Rattle.drawing.specs.Meeting.{AnEndOn, Reached, Meets};
 ghost use Rattle.outline.specs.FarApart.{Beyond, FarApart};
 ghost use Rattle.drawing.specs.Parts.{point, Close};
 
+// A corner, or the way from one corner to another (masks.rt), which is up to twice as far on each axis. So that a
+// place is `Close` is a clause of each call that needs a corner, and no fact of the type.
 #[derive(Clone, Copy, PartialEq, Eq)]
 pub struct Place {
     pub x: i64,

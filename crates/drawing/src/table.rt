@@ -17,6 +17,8 @@ use crate::parting::settle;
 use crate::seeing::{SEEN, look};
 use limits::{ALL_CELLS, MOST_CORNERS, ROW};
 
+// A ring and the cells go together through twelve functions, as two parameters: the ring is copied, and the cells are
+// lent and written. A struct of the two would be lent again in each call, for its two fields.
 pub fn fill(ring: Ring, cells: &mut [u8; ALL_CELLS])
     ensures { Seen ring.entry.xy.now cells.old cells.new }
 {
@@ -82,8 +84,7 @@ fn decide(ring: Ring, cells: &mut [u8; ALL_CELLS], i: usize, a: Known, j: usize,
     requires knows { Knows ring.xy.now i a × Knows ring.xy.now j b }
     ensures { Decided ring.entry.xy.now i j cells.old cells.new }
 {
-    let told = look(ring, i, a, j, b);
-    if told != 0 {
+    if let Some(told) = look(ring, i, a, j, b) {
         put(cells, i, j, told);
     }
 }

@@ -1,22 +1,23 @@
--- `drawing::faced::angles` meets its contract: after t steps the masks tell of the corners from n - t on.
-use mathlib.Core.Path.{◌≡◌}
-use native.Mathlib.Omega.{arith}
-use Rattle.whole.specs.Masks.{made_none, made_more, made_all}
+-- `drawing::faced::angles` meets its contract: with j corners left the masks tell of the corners from j on.
+use mathlib.Core.Path.{refl}
 use Rattle.outline.specs.Tells.{eq_tells}
-use Rattle.drawing.proofs.Machine.{digit}
+use Rattle.drawing.proofs.Machine.{digit, made_first, made_down, made_last}
 use Rattle.drawing.proofs.faced.angles.Goals as goal
 
-pub loop-t-init : goal.loop-t-init
-loop-t-init c = (omega arith, made_none, made_none)
+pub loop-j-init : goal.loop-j-init
+loop-j-init c = (made_first refl, made_first refl)
 
-pub loop-t-preserved : goal.loop-t-preserved
-loop-t-preserved c =
-    let inv = c.loop-t.invariant in
-    let l = c.loop-t-test.true in
-    (omega (arith, l), made_more l inv.1 (digit (eq_tells _ 2)), made_more l inv.2 (digit (eq_tells _ 1)))
+pub loop-j-preserved : goal.loop-j-preserved
+loop-j-preserved c =
+    let inv = c.loop-j.invariant in
+    let l = c.loop-j-test.true in
+    let h = c.loop-j.auto.j in (
+      rw c.from.ensures (made_down l h inv.0 (digit (eq_tells _ 2))),
+      rw c.from-in-loop-j.ensures (made_down l h inv.1 (digit (eq_tells _ 1))),
+    )
 
 pub returns : goal.returns
 returns c =
-    let loop = c.loop-t in
-    let every : loop.t ≡ c.args.n = omega (arith, loop.invariant.0, c.loop-t-test.false) in
-    record { two = made_all (rw every at loop.invariant.1); one = made_all (rw every at loop.invariant.2) }
+    let loop = c.loop-j in
+    let none = c.loop-j-test.false in
+    record { two = made_last none loop.invariant.0; one = made_last none loop.invariant.1 }

@@ -1,74 +1,73 @@
--- `drawing::masks::know` meets its contract: after t steps the masks tell of the sides from n - t on.
+-- `drawing::masks::know` meets its contract: with k sides left the masks tell of the sides from k on.
 use mathlib.Core.Path.{◌≡◌, refl, sym, ap, ◌∙◌, subst}
-use Prim.Native.Nat.{◌*◌, ◌%◌, ◌^◌, ◌≤◌, ◌<◌}
+use Prim.Native.Nat.{ℕ, ◌-◌, ◌*◌, ◌%◌, ◌^◌, ◌≤◌, ◌<◌}
 use native.Mathlib.Omega.{arith}
 use lib.Bits.{bit_xor}
-use lib.IntN.{pos}
-use lib.Signed.{lt_z}
 use Rattle.whole.specs.Bits.{shifted_one}
-use Rattle.whole.specs.Masks.{Marks, made_none, made_more, made_room, made_all}
-use Rattle.outline.specs.Drawing.{corners}
+use Rattle.whole.specs.Masks.{Marks}
+use Rattle.outline.specs.Drawing.{corners, next}
 use Rattle.drawing.specs.Known.{OnLine, Along}
-use Rattle.outline.specs.Round.{next_prev, next_down}
+use Rattle.outline.specs.Round.{next_prev, next_inner}
 use Rattle.drawing.specs.Away.{Away, cross_turn, less, less_back}
 use Rattle.drawing.specs.Digits.{right_marks, along_marks}
-use Rattle.drawing.proofs.Machine.{back, by_lt, by_nought, held, x_away, y_away}
-use Rattle.drawing.proofs.Machine.{digit, either, either_small}
+use Rattle.drawing.proofs.Machine.{by_lt, by_nought, held, x_away, y_away}
+use Rattle.drawing.proofs.Machine.{digit, digit_small, either, down_room, made_first, made_down, made_last, all_fits}
 use Rattle.drawing.proofs.masks.know.Goals as goal
 
+-- side k - 2 ends where side k - 1 begins
+next_lower : (n k : ℕ) → 0 < k - 1 → k ≤ n → next n (k - 1 - 1) ≡ k - 1
+next_lower n k l h = next_inner n (k - 1 - 1) (omega (arith, l, h)) ∙ omega (arith, l)
+
 -- the far end of the last side is the first corner
-pub loop-t-init : goal.loop-t-init
-loop-t-init c =
-    let d = c.args.ring.xy.now in (
-      omega arith,
-      made_none,
-      made_none,
-      made_none,
-      made_none,
-      made_none,
-      λ l. subst (λ m. Away d c.args.i m c.away-end.result) (sym (next_prev (corners d) 0 l))
-          c.away-end.ensures,
+pub loop-k-init : goal.loop-k-init
+loop-k-init c =
+    let d = c.args.ring.xy.now in
+    let all = c.count-n.ensures in (
+      made_first all,
+      made_first all,
+      made_first all,
+      made_first all,
+      made_first all,
+      λ l. rw all (subst (λ m. Away d c.args.i m c.away-end.result)
+          (sym (next_prev (corners d) 0 (rw all at l))) c.away-end.ensures),
     )
 
 pub overflow_add-low : goal.overflow_add-low
 overflow_add-low c =
-    let taken : c.loop-t.t < corners c.args.ring.xy.now =
-    (rw c.count-n.ensures at c.loop-t-test.true) in
-    let few : corners c.args.ring.xy.now ≤ 64 =
-    c.args.ring.sound.shaped.few in
-    let start = lt_z (back c.away-start.result.y) (pos 0) in
-    let end = lt_z (back c.loop-t.end.y) (pos 0) in
-    record { fits = made_room taken c.loop-t.invariant.4 few (either_small start end) }
+    let h : c.loop-k.k ≤ corners c.args.ring.xy.now = rw c.count-n.ensures at c.loop-k.auto.k in
+    let few = c.args.ring.sound.shaped.few in
+    let inv = c.loop-k.invariant in
+    record { fits = rw c.from-in-loop-k-2.ensures (down_room c.loop-k-test.true h few inv.3 (digit_small _)) }
 
 pub overflow_add-west : goal.overflow_add-west
 overflow_add-west c =
-    let taken : c.loop-t.t < corners c.args.ring.xy.now =
-    (rw c.count-n.ensures at c.loop-t-test.true) in
-    let few : corners c.args.ring.xy.now ≤ 64 =
-    c.args.ring.sound.shaped.few in
-    let start = lt_z (back c.away-start.result.x) (pos 0) in
-    let end = lt_z (back c.loop-t.end.x) (pos 0) in
-    record { fits = made_room taken c.loop-t.invariant.5 few (either_small start end) }
+    let h : c.loop-k.k ≤ corners c.args.ring.xy.now = rw c.count-n.ensures at c.loop-k.auto.k in
+    let few = c.args.ring.sound.shaped.few in
+    let inv = c.loop-k.invariant in
+    record { fits = rw c.from-in-loop-k-3.ensures (down_room c.loop-k-test.true h few inv.4 (digit_small _)) }
 
-pub loop-t-preserved : goal.loop-t-preserved
-loop-t-preserved c =
+pub loop-k-preserved : goal.loop-k-preserved
+loop-k-preserved c =
     let d = c.args.ring.xy.now in
-    let inv = c.loop-t.invariant in
-    let l = rw c.count-n.ensures at c.loop-t-test.true in
-    let start = rw c.count-n.ensures at c.away-start.ensures in
-    let end = inv.6 l in
+    let inv = c.loop-k.invariant in
+    let l = c.loop-k-test.true in
+    let h : c.loop-k.k ≤ corners d = rw c.count-n.ensures at c.loop-k.auto.k in
+    let start = c.away-start.ensures in
+    let end = inv.5 l in
     let is = held c.cross-s.type_inv (c.cross-s.ensures ∙ cross_turn start end) in (
-      omega (arith, l),
-      made_more l inv.1 (record { small = omega arith; one = λ e. refl; nought = λ e. absurd (omega arith) }),
-      made_more l inv.2 (digit (by_lt refl is (λ h. h) (λ h. h))),
-      made_more l inv.3 (digit (by_nought c.cross-s.type_inv (c.cross-s.ensures ∙ cross_turn start end))),
-      made_more l inv.4
+      made_down l h inv.0 (record { small = omega arith; one = λ e. refl; nought = λ e. absurd (omega arith) }),
+      rw c.from.ensures (made_down l h inv.1 (digit (by_lt refl is (λ h. h) (λ h. h)))),
+      rw c.from-in-loop-k.ensures
+          (made_down l h inv.2 (digit (by_nought c.cross-s.type_inv (c.cross-s.ensures ∙ cross_turn start end)))),
+      rw c.from-in-loop-k-2.ensures
+          (made_down l h inv.3
           (either (by_lt (y_away start.far).is refl (less start.is_y) (less_back start.is_y))
-          (by_lt (y_away end.far).is refl (less end.is_y) (less_back end.is_y))),
-      made_more l inv.5
+          (by_lt (y_away end.far).is refl (less end.is_y) (less_back end.is_y)))),
+      rw c.from-in-loop-k-3.ensures
+          (made_down l h inv.4
           (either (by_lt (x_away start.far).is refl (less start.is_x) (less_back start.is_x))
-          (by_lt (x_away end.far).is refl (less end.is_x) (less_back end.is_x))),
-      λ more. subst (λ m. Away d c.args.i m c.away-start.result) (sym (next_down (corners d) _ more)) start,
+          (by_lt (x_away end.far).is refl (less end.is_x) (less_back end.is_x)))),
+      λ more. subst (λ m. Away d c.args.i m c.away-start.result) (sym (next_lower (corners d) _ more h)) start,
     )
 
 pub returns : goal.returns
@@ -76,28 +75,26 @@ returns c =
     let sides : (c.prev-h.result < 64) × (c.args.i < 64) =
     let few = c.args.ring.sound.shaped.few in
     (omega (arith, c.prev-h.ensures.below, few), omega (arith, c.requires, few)) in
-    let every : c.loop-t.t ≡ corners c.args.ring.xy.now =
-    omega (arith, c.loop-t.invariant.0, c.loop-t-test.false) in
+    let none = c.loop-k-test.false in
     let flat : let s = c.args in
-    Marks (corners s.ring.xy.now) c.loop-t.flat (OnLine s.ring.xy.now s.i) =
-    let e = every in made_all (rw e at c.loop-t.invariant.3) in
+    Marks (corners s.ring.xy.now) c.loop-k.flat (OnLine s.ring.xy.now s.i) =
+    made_last none c.loop-k.invariant.2 in
     let along : let s = c.args in
     let before = 1 * 2 ^ c.prev-h.result % 2 ^ 64 in
     let after = 1 * 2 ^ s.i % 2 ^ 64 in
-    Marks (corners s.ring.xy.now) (bit_xor (bit_xor c.loop-t.flat before) after)
+    Marks (corners s.ring.xy.now) (bit_xor (bit_xor c.loop-k.flat before) after)
     (Along s.ring.xy.now s.i) =
     let before = shifted_one c.prev-h.result sides.0 ∙ ap (λ y. 2 ^ y) c.prev-h.ensures.is in
     rw (before, shifted_one c.args.i sides.1)
     (along_marks c.args.ring.xy.now c.args.i c.requires (omega (arith, c.args.ring.sound.shaped.enough)) flat) in
-    let loop = c.loop-t in
-    let e = every in
-    let left = made_all (rw e at loop.invariant.2) in
+    let loop = c.loop-k in
+    let left = made_last none loop.invariant.1 in
     record {
       left_of = left;
-      right_of = right_marks c.args.ring.xy.now c.args.i (made_all (rw e at loop.invariant.1)) left flat;
+      right_of = right_marks c.args.ring.xy.now c.args.i (made_last none loop.invariant.0) left flat;
       along_of = along;
-      low_of = made_all (rw e at loop.invariant.4);
-      west_of = made_all (rw e at loop.invariant.5);
-      left_fits = let m = rw e at loop.invariant.2 in m.fits;
+      low_of = made_last none loop.invariant.3;
+      west_of = made_last none loop.invariant.4;
+      left_fits = all_fits none loop.invariant.1;
       needs = c.need-need.ensures;
     }

@@ -1,5 +1,4 @@
 -- `drawing::seeing::look` meets its contract.
-use mathlib.Core.Path.{refl}
 use mathlib.Core.Logic.{◌⊎◌, inl, inr}
 use mathlib.Core.List.{List}
 use Prim.Native.Nat.{ℕ, ◌<◌}
@@ -30,7 +29,4 @@ pub returns-then-not-angle : goal.returns-then-not-angle
 returns-then-not-angle c =
     let h = c.requires.corners in
     let outside = if_no c.angle.ensures c.if-not-angle.true in
-    record { told = inr (refl, told-early _ c.args.ring.sound c.args.i c.args.j h.0 h.1 outside) }
-
-pub returns : goal.returns
-returns c = record { told = inl c.look_along.ensures }
+    told-early _ c.args.ring.sound c.args.i c.args.j h.0 h.1 outside
