@@ -4,7 +4,9 @@
 //
 // A line of a file is one call: a name; what is asked; the room in bytes; and what must come back: the number, the
 // pieces, and the bytes (how many, then each). Asked are two lists, each with its length first, or the number n of
-// corners and two tables of n rows of n cells. What is not of this form counts as a difference and ends the file.
+// corners and two tables of n rows of n cells. What is not of this form counts as a difference and ends the file. But
+// where the number or the pieces stand, a word that is no number is one that no call gives: the call differs, and the
+// file goes on.
 #![tactic(auto)]
 
 mod limited;

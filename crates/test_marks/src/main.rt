@@ -5,7 +5,8 @@
 // A line of the file is one call: a name; two lists, each with its length first; the room in bytes; the mark; and what
 // must come back: the number, the pieces, the bytes (how many, then each), 1 with a place and 0 without, and for each
 // axis the step and the 64 bits of the rest, as four numbers of 16 bits. What is not of this form counts as a
-// difference and ends the file.
+// difference and ends the file. But in what must come back a word that is no number, save among the bytes and the
+// steps, is one that no call gives: the call differs, and the file goes on.
 #![tactic(auto)]
 
 mod call;
