@@ -3,7 +3,7 @@
 --     0      nothing is known of the pair yet, or neither sees the other
 --     2, 3   told: a centre's sight alone, both kinds
 --     4 + k  corner k lies between the two, and whether a centre sees past it is settled at the end
-use Rattle.std.specs.Prelude.{◌≡◌, Bool, ◌⊎◌, List, ℕ, ◌+◌, ◌<◌, ℤ, get_or, length, set, Option, MatchOption}
+use Rattle.std.specs.Prelude.{◌≡◌, Bool, ◌⊎◌, List, ℕ, ◌+◌, ◌<◌, ℤ, get_or, length, set}
 use Rattle.limits.specs.Limits.{place}
 use Rattle.outline.specs.Drawing.{corners, after, Beside, Sees}
 use Rattle.outline.specs.InOrOn.{CentreSees}
@@ -90,9 +90,9 @@ RowsDone d i p q = Early d p q ⊎ ((p < i) ⊎ (q < i))
 abbrev pub RowsAdded : List ℤ → List ℕ → List ℕ → Type 0
 RowsAdded d before now = Grows d (Early d) (RowsDone d (corners d)) before now
 
--- what a look at i and j returns: what is known of them; or none, where they are told or neither sees the other
-abbrev pub Looked : List ℤ → ℕ → ℕ → Option ℕ → Type 0
-Looked d i j r = MatchOption r (CentreSees d i j → Early d i j) (Code d i j)
+-- what a look at i and j returns: what is known of them; or 0, where they are told already or neither sees the other
+pub record Looked (d : List ℤ) (i j v : ℕ) : Type 0 where
+  pub told : Code d i j v ⊎ ((v ≡ 0) × (CentreSees d i j → Early d i j))
 
 -- what is known is written
 abbrev pub Decided : List ℤ → ℕ → ℕ → List ℕ → List ℕ → Type 0

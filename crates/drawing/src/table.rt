@@ -84,7 +84,8 @@ fn decide(ring: Ring, cells: &mut [u8; ALL_CELLS], i: usize, a: Known, j: usize,
     requires knows { Knows ring.xy.now i a × Knows ring.xy.now j b }
     ensures { Decided ring.entry.xy.now i j cells.old cells.new }
 {
-    if let Some(told) = look(ring, i, a, j, b) {
+    let told = look(ring, i, a, j, b);
+    if told != 0 {
         put(cells, i, j, told);
     }
 }

@@ -1,4 +1,5 @@
 -- `drawing::seeing::look` meets its contract.
+use mathlib.Core.Path.{refl}
 use mathlib.Core.Logic.{◌⊎◌, inl, inr}
 use mathlib.Core.List.{List}
 use Prim.Native.Nat.{ℕ, ◌<◌}
@@ -29,4 +30,7 @@ pub returns-then-not-angle : goal.returns-then-not-angle
 returns-then-not-angle c =
     let h = c.requires.corners in
     let outside = if_no c.angle.ensures c.if-not-angle.true in
-    told-early _ c.args.ring.sound c.args.i c.args.j h.0 h.1 outside
+    record { told = inr (refl, told-early _ c.args.ring.sound c.args.i c.args.j h.0 h.1 outside) }
+
+pub returns : goal.returns
+returns c = record { told = inl c.look_along.ensures }
