@@ -1,5 +1,7 @@
 -- signed numbers of the machine
 pub mod Machine
+-- which sides are neighbours
+mod Sides
 -- what the corners know, one after the other
 mod Learning
 -- a walk over a mask

@@ -137,18 +137,26 @@ differ_tells p q =
     (and_tells (by_decides (Decides-int_eq p.x q.x)) (by_decides (Decides-int_eq p.y q.y)))
     (λ h. point_eq h.0 h.1) (λ e. (ap (λ (z : Point). z.x) e, ap (λ (z : Point). z.y) e)))
 
--- every number below n passes, or one fails
+-- n numbers, a the first of them: every one passes, or one fails
+pub range_tells : {r : Bool} {P : ℕ → Type 0} (a n : ℕ) →
+    MatchBool r (AllWithin P (range_with_len a n) 0 (length (range_with_len a n)))
+    ((k : ℕ) × (k < length (range_with_len a n)) × HoldsAt (λ i. ¬ P i) (range_with_len a n) k) →
+    Tells r ((i : ℕ) → a ≤ i → i < a + n → P i)
+range_tells {r = true} {P} a n all =
+    surely (λ i m l. let e : get_or (range_with_len a n) (i - a) 0 ≡ i =
+    omega (arith, get_or-range_with_len a n (i - a) 0 (omega (arith, m, l)), m) in
+    subst P e (all (i - a) 0 (omega arith) (omega (arith, m, l, length-range_with_len a n))))
+range_tells {r = false} {P} a n w =
+    let l : w.0 < n = omega (arith, w.1, length-range_with_len a n) in
+    let e : a + w.0 ≡ get_or (range_with_len a n) w.0 0 = omega (arith, get_or-range_with_len a n w.0 0 l) in
+    never (λ f. w.2 0 (subst P e (f (a + w.0) (omega arith) (omega (arith, l)))))
+
+-- every number below n
 pub all_tell : {r : Bool} {P : ℕ → Type 0} (n : ℕ) →
     MatchBool r (AllWithin P (range_with_len 0 n) 0 (length (range_with_len 0 n)))
     ((k : ℕ) × (k < length (range_with_len 0 n)) × HoldsAt (λ i. ¬ P i) (range_with_len 0 n) k) →
     Tells r ((i : ℕ) → i < n → P i)
-all_tell {r = true} {P} n all =
-    surely (λ i l. let e : get_or (range_with_len 0 n) i 0 ≡ i = omega (arith, get_or-range_with_len 0 n i 0 l) in
-    subst P e (all i 0 (omega arith) (omega (arith, l, length-range_with_len 0 n))))
-all_tell {r = false} {P} n w =
-    let l : w.0 < n = omega (arith, w.1, length-range_with_len 0 n) in
-    let e : w.0 ≡ get_or (range_with_len 0 n) w.0 0 = omega (arith, get_or-range_with_len 0 n w.0 0 l) in
-    never (λ f. w.2 0 (subst P e (f w.0 l)))
+all_tell n w = as_well (range_tells 0 n w) (λ f i l. f i (omega arith) (omega arith)) (λ f i m l. f i (omega arith))
 
 -- ---- a test as a digit of a mask
 pub digit_small : (b : Bool) → bool_byte b < 2
