@@ -1,8 +1,8 @@
 -- The decimal digits of a number: those that are written are those of the definition.
-use Rattle.std.specs.Prelude.{◌≡◌, List, [], ◌∷◌, ◌++◌, ℕ, zero, suc, ◌+◌, ◌/◌, ◌%◌, ◌^◌, ◌<◌, ℤ, pos, negsuc, decimal}
+use Rattle.std.specs.Prelude.{◌≡◌, List, [], ◌∷◌, ◌++◌, ℕ, zero, suc, ◌+◌, ◌/◌, ◌%◌, ◌^◌, ◌<◌, ℤ, pos, negsuc, decimal, true, unsigned_abs, int_lt}
 use Rattle.std.specs.Fmt.{signed_decimal}
 use Rattle.std.specs.Int.{w64}
-use Rattle.std.proofs.Common.{ap, ◌∙◌, arith, SFits}
+use Rattle.std.proofs.Common.{sym, ap, ◌∙◌, arith, true≢false, SFits, append_assoc}
 use Rattle.std.proofs.lemmas.Bool.{lt-ltb, le-ltb}
 use Rattle.std.proofs.lemmas.Fmt.{decimal_digit, decimal_step}
 use mathlib.Core.Logic.{by_cases}
@@ -29,3 +29,11 @@ pub whole_spelt : (z : ℤ) → SFits w64 z → signed_decimal z ≡ whole_text 
 unfolding whole_text
 whole_spelt (pos n) f = natural_spelt n (omega (arith, f.sfits))
 whole_spelt (negsuc n) f = ap (λ (u : List ℕ). 45 ∷ u) (natural_spelt (suc n) (omega (arith, f.sfits)))
+
+-- below zero, behind what was told before: the sign and the size. By it `push_step` is proved too where it writes the
+-- sign by hand: so its must-fail edit is refused for the plus alone
+pub below_spelt : (u : List ℕ) (z : ℤ) → SFits w64 z → int_lt z (pos 0) ≡ true →
+    u ++ whole_text z ≡ (u ++ 45 ∷ []) ++ decimal (unsigned_abs z)
+unfolding whole_text
+below_spelt u (pos n) f e = absurd (true≢false (sym e ∙ le-ltb n 0 (omega arith)))
+below_spelt u (negsuc n) f e = rw (natural_spelt (suc n) (omega (arith, f.sfits))) (simp append_assoc)

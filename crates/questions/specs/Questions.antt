@@ -11,6 +11,7 @@
 --     ?                        the line was no question
 use Rattle.std.specs.Prelude.{Result, Ok, Err, ◌≡◌, Bool, cond, ◌&&◌, List, [], ◌∷◌, ◌++◌, ℕ, zero, suc, ◌+◌, ◌/◌, ◌%◌, eqb, ltb, leb, ℤ, pos, negsuc, length, replicate, Option, Some, None}
 use Rattle.std.specs.Option.{option_and_then}
+use Rattle.std.specs.Result.{result_ok}
 use Rattle.std.specs.Float.{binary64}
 use Rattle.std.specs.Float.Ieee.{to_bits}
 use Rattle.limits.specs.Limits.{most_numbers, room}
@@ -54,12 +55,11 @@ module _ (line : List ℕ) (at : ℕ) where
   abbrev pub mark_question : Option Question
   mark_question =
       option_and_then (λ a. option_and_then (λ b. cond (all_numbers whole line mark_at 2 && ends) (Some (the_mark a b))
-      None) (counted_wholes line second_at most_numbers)) (counted_wholes line at most_numbers)
+      None) (result_ok (counted_wholes line second_at most_numbers))) (result_ok (counted_wholes line at most_numbers))
 
 -- what the first number asks for
-abbrev pub asks : List ℕ → Option ℕ → ℕ → Option Question
-asks line None at = None
-asks line (Some kind) at = cond (eqb kind 1) (mark_question line at) None
+abbrev pub asks : List ℕ → ℕ → ℕ → Option Question
+asks line kind at = cond (eqb kind 1) (mark_question line at) None
 
 unfoldable pub question : List ℕ → Option Question
 question line = cond (ltb (length line) line_limit) (asks line (first_number line 0) (after line 0)) None

@@ -27,8 +27,8 @@ fn read_mark<'a>(
 ) -> Option<Question<'a>>
     ensures { IsMark words.entry.text.now words.entry.at result }
 {
-    let a = words.list(first)?;
-    let b = words.list(second)?;
+    let a = words.list(first).ok()?;
+    let b = words.list(second).ok()?;
     let mut mark = [0i32; 2];
     words.fill(&mut mark)?;
     if !words.is_done() {

@@ -21,7 +21,7 @@ fn push_number<I: Integer>(line: &mut Line, n: I)
     line.push_str(digits.format(n));
 }
 
-#[tactic(auto, using(crate::proofs::Spelling::whole_spelt))]
+#[tactic(auto, using(crate::proofs::Spelling::whole_spelt, crate::proofs::Spelling::below_spelt))]
 fn push_step(line: &mut Line, step: i64)
     requires { length line.old.bytes + 21 ≤ 128 }
     ensures text { line.new.bytes ≡ line.old.bytes ++ whole_text step }

@@ -1,14 +1,14 @@
 -- What a word tells, as it is read.
 use Rattle.std.specs.Prelude.{◌≡◌, Bool, true, false, cond, ◌&&◌, List, [], ◌∷◌, ℕ, zero, suc, ◌+◌, ◌-◌, ◌<◌, ◌≤◌, eqb, ℤ, pos, negsuc, ◌-ℤ◌, length, take, drop, get_or, Option, Some, None, SomeIff}
 use Rattle.std.specs.Int.{w32}
-use Rattle.std.proofs.Common.{refl, sym, ap, ◌∙◌, arith, drop-cons, SFits}
+use Rattle.std.proofs.Common.{refl, sym, ap, ◌∙◌, arith, drop-cons, eq-eqb, ne_eqb, SFits}
 use Rattle.std.proofs.lemmas.Bool.{lt-leb, le-leb, lt-ltb}
 use lib.Pointwise.{pointwise}
 use mathlib.Core.Logic.{by_cases}
 use native.Mathlib.Decide.{dec_lt}
 use native.Mathlib.Numerals.{add-one}
 use Rattle.recorded.specs.Decimals.{natural, whole, above, below}
-use Rattle.recorded.specs.Digits.{with_digit, number, stuck, word_read, empty_word}
+use Rattle.recorded.specs.Digits.{with_digit, number, stuck, word_read}
 
 module _ (w : List ℕ) (i m : ℕ) (h : i < length w) (read : number (Some m) (drop i w) ≡ number (Some 0) w) where
   pub one_more : (r : Option ℕ) → r ≡ with_digit (Some m) (get_or w i 0) →
@@ -18,13 +18,16 @@ module _ (w : List ℕ) (i m : ℕ) (h : i < length w) (read : number (Some m) (
   pub no_digit : None ≡ with_digit (Some m) (get_or w i 0) → None ≡ number (Some 0) w
   no_digit e = sym (stuck (drop (i + 1) w)) ∙ one_more None e
 
+-- a word that is read whole, from 0 to its length
+read_whole : (w : List ℕ) → cond (eqb (length w) 0) None (number (Some 0) w) ≡ natural w
+read_whole w =
+    ap (λ (r : Option ℕ × ℕ). r.0) (word_read w (number (Some 0) w) 0 (length w) refl (omega arith))
+
 pub natural_is : (w : List ℕ) → 0 < length w → number (Some 0) w ≡ natural w
-natural_is [] h = absurd (omega arith)
-natural_is (c ∷ w) h = word_read c w
+natural_is w h = let e = read_whole w in rw (ne_eqb (length w) 0 (λ q. omega arith)) at e
 
 pub no_natural : (w : List ℕ) → length w ≡ 0 → None ≡ natural w
-no_natural [] e = sym empty_word
-no_natural (c ∷ w) e = absurd (omega arith)
+no_natural w e = let r = read_whole w in rw (eq-eqb (length w) 0 e) at r
 
 -- ---- a minus in front, and none
 minus_first : (b : Bool) (n : Option ℕ) (other : Option ℤ) → (b && true) ≡ true → below n ≡ cond b (below n) other

@@ -1,29 +1,40 @@
 -- Lists of a text that say how long they are, and the buffers that they are read into. To be believed.
-use Rattle.std.specs.Prelude.{Option, Some, None, unwrap_or, cond, List, [], ◌∷◌, ℕ, zero, suc, ltb, ℤ, pos, length, get_or}
+use Rattle.std.specs.Prelude.{Option, Result, Ok, Err, unwrap_or, cond, List, [], ◌∷◌, ℕ, zero, suc, leb, ltb, ℤ, pos, length, get_or}
 use Rattle.recorded.specs.Decimals.{natural, byte, whole, first_word, after, within, place, all_numbers, byte_in, whole_in}
 use Rattle.recorded.specs.Lent.{unwritten}
 
--- a number up to `most`, or 0
-abbrev pub up_to : ℕ → Option ℕ → ℕ
-up_to most n = unwrap_or (within most n) 0
+abbrev pub up_to : ℕ → ℕ → ℕ
+up_to most n = cond (leb n most) n 0
 
--- ---- how many, then each; nothing is read where they are more than `most`
-abbrev pub first_number : List ℕ → ℕ → Option ℕ
-first_number text at = natural (first_word text at)
+-- what the first word tells; where it tells none, the first number that has no room in 32 bits
+abbrev pub no_number : ℕ
+no_number = 4294967296
 
+abbrev pub first_number : List ℕ → ℕ → ℕ
+first_number text at = unwrap_or (natural (first_word text at)) no_number
+
+-- the same up to `most`, or none
 abbrev pub fitting : List ℕ → ℕ → ℕ → Option ℕ
-fitting text at most = within most (first_number text at)
+fitting text at most = within most (natural (first_word text at))
 
--- as many as it says where all are numbers
-abbrev pub counted : {A : Type 0} → (List ℕ → Option A) → List ℕ → ℕ → Option ℕ → Option ℕ
-counted tell text at None = None
-counted tell text at (Some n) = cond (all_numbers tell text at n) (Some n) None
+-- ---- how many, then each; nothing is read where they are more than `most`. Where a word tells no number, how many
+-- ---- words there were all the same
+abbrev pub counted : {A : Type 0} → (List ℕ → Option A) → List ℕ → ℕ → ℕ → Result ℕ ℕ
+counted tell text at most =
+    cond (leb (first_number text at) most)
+    (cond (all_numbers tell text (after text at) (first_number text at)) (Ok (first_number text at))
+    (Err (first_number text at))) (Err 0)
 
-abbrev pub counted_wholes : List ℕ → ℕ → ℕ → Option ℕ
-counted_wholes text at most = counted whole text (after text at) (fitting text at most)
+abbrev pub counted_wholes : List ℕ → ℕ → ℕ → Result ℕ ℕ
+counted_wholes = counted whole
 
-abbrev pub counted_bytes : List ℕ → ℕ → ℕ → Option ℕ
-counted_bytes text at most = counted byte text (after text at) (fitting text at most)
+abbrev pub counted_bytes : List ℕ → ℕ → ℕ → Result ℕ ℕ
+counted_bytes = counted byte
+
+-- how many there were, whether all are numbers or not
+abbrev pub how_many : Result ℕ ℕ → ℕ
+how_many (Ok n) = n
+how_many (Err n) = n
 
 -- where the text goes on
 abbrev pub list_end : List ℕ → ℕ → ℕ → ℕ

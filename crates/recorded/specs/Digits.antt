@@ -1,7 +1,7 @@
 -- Digits one after another, as they are read: this is what the private functions of `numbers` promise. They tell what
 -- the plain definition of a number tells.
-use Rattle.std.specs.Prelude.{◌≡◌, refl, Bool, true, false, cond, ◌&&◌, List, [], ◌∷◌, ℕ, ◌+◌, ◌*◌, ◌-◌, ◌<◌, leb, Option, Some, None}
-use Rattle.std.proofs.Common.{arith}
+use Rattle.std.specs.Prelude.{◌≡◌, refl, Bool, true, false, cond, ◌&&◌, List, [], ◌∷◌, ℕ, ◌+◌, ◌*◌, ◌-◌, ◌<◌, eqb, leb, length, Option, Some, None}
+use Rattle.std.proofs.Common.{arith, eq-eqb, ne_eqb}
 use Rattle.std.proofs.lemmas.Bool.{lt-leb, le-leb}
 use mathlib.Core.Logic.{by_cases}
 use native.Mathlib.Decide.{dec_lt}
@@ -45,11 +45,20 @@ same m (c ∷ w) =
     (λ h. rw (le-leb m 4294967295 (omega arith)) (fitting_digit more w (same more w) (is_digit c)))
 
 -- ---- a word that has been read
-pub word_read : (c : ℕ) (w : List ℕ) → number (Some 0) (c ∷ w) ≡ natural (c ∷ w)
+-- the word from `at` to `end`, whose digits told m, and where the text goes on; an empty one tells no number
+abbrev pub ended : Option ℕ → ℕ → ℕ → Option ℕ × ℕ
+ended m at end = (cond (eqb end at) None m, end)
+
+pub digits_read : (c : ℕ) (w : List ℕ) → number (Some 0) (c ∷ w) ≡ natural (c ∷ w)
 unfolding natural
-word_read c w = same 0 (c ∷ w)
+digits_read c w = same 0 (c ∷ w)
 
 -- an empty word tells no number
 pub empty_word : natural [] ≡ None
 unfolding natural
 empty_word = refl
+
+pub word_read : (w : List ℕ) (m : Option ℕ) (at end : ℕ) → m ≡ number (Some 0) w → end ≡ at + length w →
+    ended m at end ≡ (natural w, at + length w)
+word_read [] m at end e l = rw (eq-eqb end at (omega arith), l, empty_word) refl
+word_read (c ∷ w) m at end e l = rw (ne_eqb end at (λ q. omega arith), e, l, digits_read c w) refl

@@ -1,9 +1,9 @@
 -- What stands in front of a buffer after a list was read is the list that the text tells.
-use Rattle.std.specs.Prelude.{◌≡◌, refl, Bool, true, false, cond, List, ℕ, zero, suc, ◌<◌, ◌≤◌, ℤ, pos, length, get_or, take, Option, Some, None, unwrap_or}
+use Rattle.std.specs.Prelude.{◌≡◌, refl, Bool, true, false, cond, List, ℕ, zero, suc, ◌<◌, ◌≤◌, leb, ℤ, pos, length, get_or, take, Ok, Err}
 use Rattle.std.proofs.Common.{sym, ap, ◌∙◌, arith, lt-ltb, length-take-le, get_or-take, ext_get_or}
-use Rattle.recorded.specs.Decimals.{whole, whole_in, after, place, all_numbers}
+use Rattle.recorded.specs.Decimals.{whole_in, after, place}
 use Rattle.recorded.specs.Lent.{Holds}
-use Rattle.recorded.specs.Counted.{up_to, first_number, fitting, counted, counted_wholes, list_end, list_in, told}
+use Rattle.recorded.specs.Counted.{up_to, first_number, counted_wholes, how_many, list_end, list_in, told}
 
 pub told_length : {A : Type 0} (item : ℕ → A) (n : ℕ) → length (told item n) ≡ n
 told_length item zero = refl
@@ -34,17 +34,14 @@ module _ (text : List ℕ) (at : ℕ) (before after' : List ℤ)
       ∙ sym (told_each (pos 0) item n k j))
 
 -- the count that is told of a list is that of the numbers in front
-count_all : (b : Bool) (n m : ℕ) → cond b (Some n) None ≡ Some m → m ≡ n
-count_all true n m e = cc
-count_all false n m e = absurd (cc)
+count_of : (b all : Bool) (n : ℕ) → how_many (cond b (cond all (Ok n) (Err n)) (Err 0)) ≡ cond b n 0
+count_of true true n = refl
+count_of true false n = refl
+count_of false all n = refl
 
-count_of : (text : List ℕ) (at : ℕ) (o : Option ℕ) (n : ℕ) → counted whole text at o ≡ Some n → n ≡ unwrap_or o 0
-count_of text at None n e = absurd (cc)
-count_of text at (Some m) n e = count_all (all_numbers whole text at m) m n e
-
-pub counted_is : (text : List ℕ) (at most n : ℕ) → counted_wholes text at most ≡ Some n →
-    n ≡ up_to most (first_number text at)
-counted_is text at most n e = count_of text (after text at) (fitting text at most) n e
+pub counted_is : (text : List ℕ) (at most : ℕ) →
+    how_many (counted_wholes text at most) ≡ up_to most (first_number text at)
+counted_is text at most = count_of (leb (first_number text at) most) _ _
 
 -- all numbers or not, the text goes on behind as many words as the first number says; behind that one alone where it
 -- has no room or is none

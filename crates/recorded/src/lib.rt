@@ -2,6 +2,7 @@
 // is lent and must leave.
 #![tactic(auto)]
 
+pub mod counted;
 pub mod floats;
 pub mod lent;
 pub mod numbers;

@@ -1,10 +1,12 @@
 // The words of a text, one after another.
-ghost use Rattle.std.specs.Prelude.{◌≡◌, ◌≤◌, Option, Some, pos, length, leb, drop, IfSome};
+ghost use Rattle.std.specs.Prelude.{◌≡◌, ◌≤◌, Option, Some, pos, length, leb, get_or, drop, IfSome, MatchResult};
 ghost use Rattle.recorded.specs.Decimals.{blanks, word, word_at, word_start, word_end, first_word, after, place, natural};
 ghost use Rattle.recorded.specs.Decimals.{all_tell, number_in, Moved};
-ghost use Rattle.recorded.specs.Counted.{fitting, counted_wholes, counted_bytes, list_end, list_in, left_in};
+ghost use Rattle.recorded.specs.Counted.{up_to, first_number, fitting, counted, counted_wholes, counted_bytes};
+ghost use Rattle.recorded.specs.Counted.{list_end, in_front, list_in, left_in};
 ghost use Rattle.recorded.specs.Lent.{Holds};
 
+use crate::counted::{NO_NUMBER, up_to};
 use crate::lent;
 use crate::numbers::Number;
 
@@ -117,32 +119,56 @@ impl<'a> Words<'a> {
         all.then_some(())
     }
 
+    // The number in front of a list; `NO_NUMBER` where its word tells none.
+    fn first_number(&mut self) -> u64
+        ensures value { result ≡ first_number self.old.text.now self.old.at }
+        ensures place { Moved self.old self.new (after self.old.text.now self.old.at) }
+    {
+        self.natural().map_or(NO_NUMBER, u64::from)
+    }
+
     // A list that says how long it is, into the front of `out`: how many numbers, then each. Of one that has no room
-    // nothing is read. The count is told and no slice of `out`: `holds` and `list_told` speak of a count and of the
-    // whole buffer. `bound` as in `up_to`.
-    pub fn list(&mut self, out: &mut [i32]) -> Option<usize>
+    // nothing is read, and the error is 0. Where a word tells no number it is how many there were, and so many places
+    // of `out` are written all the same.
+    fn counted<T: Number>(&mut self, out: &mut [T]) -> Result<usize, usize>
+        ensures value { result ≡ counted T.told self.old.text.now self.old.at (length out.old) }
+        ensures bound { MatchResult result (λ n. n ≤ length out.old) (λ n. n ≤ length out.old) }
+        ensures place { Moved self.old self.new (list_end self.old.text.now self.old.at (length out.old)) }
+        ensures holds { let text = self.old.text.now in let at = self.old.at in
+            Holds T.NOUGHT (in_front (up_to (length out.old) (first_number text at))
+            (number_in T.told T.NOUGHT text (after text at)) (λ k. get_or out.old k T.NOUGHT)) out.old out.new }
+    {
+        let n = self.first_number();
+        let count = up_to(out.len(), n);
+        let all = self.fill(&mut out[..count]);
+        if all.is_some() && count as u64 == n {
+            Ok(count)
+        } else {
+            Err(count)
+        }
+    }
+
+    // A list of numbers of 32 bits. The count is told and no slice of `out`: `holds` and `list_told` speak of a count
+    // and of the whole buffer. `bound` as in `up_to`.
+    pub fn list(&mut self, out: &mut [i32]) -> Result<usize, usize>
         ensures value { result ≡ counted_wholes self.old.text.now self.old.at (length out.old) }
-        ensures bound { IfSome result (λ n. n ≤ length out.old) }
+        ensures bound { MatchResult result (λ n. n ≤ length out.old) (λ n. n ≤ length out.old) }
         ensures place { Moved self.old self.new (list_end self.old.text.now self.old.at (length out.old)) }
         ensures holds { Holds (pos 0) (list_in self.old.text.now self.old.at out.old) out.old out.new }
     {
-        let n = self.up_to(out.len())?;
-        self.fill(&mut out[..n])?;
-        Some(n)
+        self.counted::<i32>(out)
     }
 
     // What a call must leave: the bytes that the text has (how many, then each), and after them what was there. It is
     // no `list` of bytes: behind its numbers `list` keeps what was lent, and here that is filled first. The count is
     // told, as by `list`; whoever compares what a call left looks at what stands behind the bytes too.
-    pub fn left(&mut self, out: &mut [u8]) -> Option<usize>
+    pub fn left(&mut self, out: &mut [u8]) -> Result<usize, usize>
         ensures value { result ≡ counted_bytes self.old.text.now self.old.at (length out.old) }
-        ensures bound { IfSome result (λ n. n ≤ length out.old) }
+        ensures bound { MatchResult result (λ n. n ≤ length out.old) (λ n. n ≤ length out.old) }
         ensures place { Moved self.old self.new (list_end self.old.text.now self.old.at (length out.old)) }
         ensures holds { Holds 0 (left_in self.old.text.now self.old.at (length out.old)) out.old out.new }
     {
         lent::fill(out);
-        let n = self.up_to(out.len())?;
-        self.fill(&mut out[..n])?;
-        Some(n)
+        self.counted::<u8>(out)
     }
 }

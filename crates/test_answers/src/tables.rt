@@ -1,4 +1,5 @@
 // A call of the search alone: two tables of sight.
+use crate::lists::reply;
 use limits::{ALL_CELLS, MOST_CORNERS, ROW};
 use recorded::lent::fill;
 use recorded::words::Words;
@@ -18,12 +19,7 @@ fn table(words: &mut Words, n: usize, cells: &mut [u8; ALL_CELLS]) -> Option<()>
 
 // The call itself, with nothing promised: what comes back is compared here, and its proof stands elsewhere.
 pub fn cut(n: usize, first: &[u8], second: &[u8], room: &mut [u8]) -> Reply {
-    let cut = desk::stages::iravikkon_cut(n, first, second, room);
-    Reply {
-        number: u32::from(cut.number),
-        pieces: cut.pieces,
-        bytes: cut.bytes,
-    }
+    reply(desk::stages::iravikkon_cut(n, first, second, room))
 }
 
 pub fn tried(rt: &impl Print, words: &mut Words, call: Call) -> Option<bool> {

@@ -17,9 +17,9 @@ pub fn tried<F: Fn(&[i32], &[i32], &[u8]) -> Told>(
     let mut second = [0i32; LIST];
     let mut list = [0u8; LIST];
     let _name = words.word();
-    let n = words.list(&mut first)?;
-    let m = words.list(&mut second)?;
-    let k = words.left(&mut list)?;
+    let n = words.list(&mut first).ok()?;
+    let m = words.list(&mut second).ok()?;
+    let k = words.left(&mut list).ok()?;
     let due = Told::read(words)?;
     let got = check(&first[..n], &second[..m], &list[..k]);
     let right = got == due;

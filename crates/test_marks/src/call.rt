@@ -18,8 +18,8 @@ pub fn tried<F: Fn(&[i32], &[i32], Mark, &mut [u8]) -> Got>(
     let mut second = [0i32; LIST];
     let mut after = [0u8; BUFFER];
     let _name = words.word();
-    let n = words.list(&mut first)?;
-    let m = words.list(&mut second)?;
+    let n = words.list(&mut first).ok()?;
+    let m = words.list(&mut second).ok()?;
     let lent = words.up_to(BUFFER)?;
     let mark = Mark {
         x: words.number()?,

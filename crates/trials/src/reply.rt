@@ -1,6 +1,7 @@
 // What comes back from a call for a cutting, but for the buffer.
 ghost use Rattle.std.specs.Prelude.{Some, codes, ◌++◌, ◌≡◌, length};
 ghost use Rattle.std.specs.Fmt.{decimal};
+ghost use Rattle.std.specs.Result.{result_ok};
 ghost use Rattle.recorded.specs.Counted.{counted_bytes, left_in, list_end};
 ghost use Rattle.recorded.specs.Decimals.{Moved, after, first_word, natural};
 ghost use Rattle.recorded.specs.Lent.{Holds};
@@ -37,7 +38,7 @@ impl Reply {
     pub fn read(words: &mut Words, buffer: &mut [u8; BUFFER]) -> Option<Option<Reply>>
         ensures value { let text = words.old.text.now in let at = words.old.at in
             result ≡ reply (natural (first_word text at)) (natural (first_word text (after text at)))
-            (counted_bytes text (after text (after text at)) (length buffer.old)) }
+            (result_ok (counted_bytes text (after text (after text at)) (length buffer.old))) }
         ensures place { let text = words.old.text.now in let at = words.old.at in
             Moved words.old words.new (list_end text (after text (after text at)) (length buffer.old)) }
         ensures holds { let text = words.old.text.now in let at = words.old.at in
@@ -45,7 +46,7 @@ impl Reply {
     {
         let number = words.natural();
         let pieces = words.natural();
-        let bytes = words.left(buffer)?;
+        let bytes = words.left(buffer).ok()?;
         Some(
             number.zip(pieces).map(|(number, pieces)| Reply {
                 number,

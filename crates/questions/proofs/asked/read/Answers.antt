@@ -1,7 +1,6 @@
 -- `asked::read` meets its contract.
 use Rattle.std.proofs.Common.{◌≡◌, sym, subst, ap, ap₂, ◌∙◌, Bor, List, ℕ, Option}
 use Rattle.recorded.specs.Decimals.{natural, first_word, after}
-use Rattle.recorded.specs.Counted.{first_number}
 use Rattle.questions.specs.Questions.{mark_question}
 use Rattle.questions.specs.Parts.{Means}
 use Rattle.questions.proofs.Reading.{too_long, no_kind, other_kind, asks_mark}
@@ -9,8 +8,8 @@ use Rattle.questions.proofs.asked.read.Goals as goal
 
 -- the first number, by what the words began with
 kind_is : (text line : List ℕ) (at : ℕ) (r : Option ℕ) → text ≡ line → at ≡ 0 → r ≡ natural (first_word text at) →
-    r ≡ first_number line 0
-kind_is text line at r t p e = e ∙ ap₂ first_number t p
+    r ≡ natural (first_word line 0)
+kind_is text line at r t p e = e ∙ ap₂ (λ u k. natural (first_word u k)) t p
 
 pub returns-then-line-ge-LINE_LIMIT : goal.returns-then-line-ge-LINE_LIMIT
 returns-then-line-ge-LINE_LIMIT c = too_long c.args.line.now c.if-line-ge-LINE_LIMIT.true

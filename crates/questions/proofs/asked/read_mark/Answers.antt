@@ -1,11 +1,12 @@
 -- `asked::read_mark` meets its contract: each part is read where the one before it ends. Where a part is missing, the
 -- parts tell so at once.
-use Rattle.std.specs.Prelude.{pos, leb}
+use Rattle.std.specs.Prelude.{pos, leb, Result, Ok, Err, Some}
+use Rattle.std.specs.Result.{result_ok}
 use Rattle.std.specs.Int.{w32}
 use Rattle.std.proofs.Common.{rules, arith, ◌≡◌, refl, sym, ap, ap₂, ◌∙◌, Bor, List, ℕ, length, get_or, to_z-of_z, SFits}
 use Rattle.limits.specs.Limits.{most_numbers}
 use Rattle.recorded.specs.Decimals.{after, place, word_start, whole, whole_in, all_tell}
-use Rattle.recorded.specs.Counted.{counted_wholes, list_end}
+use Rattle.recorded.specs.Counted.{counted_wholes, how_many, list_end}
 use Rattle.recorded.specs.Told.{list_told, counted_is}
 use Rattle.questions.specs.Questions.{numbers, second_at, mark_at}
 use Rattle.questions.proofs.Reading.{is_asked}
@@ -13,8 +14,14 @@ use Rattle.questions.proofs.asked.read_mark.Goals as goal
 
 -- how many, and where the text goes on, by the longest list
 count_is : (line text : List ℕ) (at p n : ℕ) {r : _} → text ≡ line → p ≡ at → n ≡ most_numbers →
-    counted_wholes text p n ≡ r → counted_wholes line at most_numbers ≡ r
-count_is line text at p n t e m q = sym (ap₂ (λ u k. counted_wholes u k n) t e ∙ ap (counted_wholes line at) m) ∙ q
+    result_ok (counted_wholes text p n) ≡ r → result_ok (counted_wholes line at most_numbers) ≡ r
+count_is line text at p n t e m q =
+    ap result_ok (sym (ap₂ (λ u k. counted_wholes u k n) t e ∙ ap (counted_wholes line at) m)) ∙ q
+
+-- a list that was read told how many it has
+told_count : (r : Result ℕ ℕ) (n : ℕ) → result_ok r ≡ Some n → n ≡ how_many r
+told_count (Ok k) n e = cc
+told_count (Err k) n e = absurd (cc)
 
 end_is : (line text : List ℕ) (at p n q : ℕ) → text ≡ line → p ≡ at → n ≡ most_numbers → q ≡ list_end text p n →
     q ≡ list_end line at most_numbers
@@ -36,14 +43,14 @@ returns c =
     let at₂ : c.list-2.new.self.at ≡ mark_at line at = end_is line _ _ _ _ _ text₁ at₁ room₂ b.place.place in
     let at₃ : c.fill.new.self.at ≡ place line (mark_at line at) 2 =
     m.place.place ∙ ap₂ (λ t p. place t p 2) text₂ at₂ in
-    let a_is = sym a.value ∙ c.in_ok-a.was in
-    let b_is = sym b.value ∙ c.in_ok-b.was in
+    let a_is = ap result_ok (sym a.value) ∙ sym c.ok.ensures.value ∙ c.in_ok-a.was in
+    let b_is = ap result_ok (sym b.value) ∙ sym c.ok-2.ensures.value ∙ c.in_ok-b.was in
     let first =
     list_told line at c.args.first.now c.list.new.out a.holds c.in_ok-a.a
-    (counted_is line at (length c.args.first.now) _ a_is) c.in_ok-a.ensures.bound in
+    (told_count _ _ a_is ∙ counted_is line at (length c.args.first.now)) (search rules) in
     let second =
     list_told c.list.new.self.text.now c.list.new.self.at c.args.second.now c.list-2.new.out b.holds c.in_ok-b.b
-    (counted_is _ _ (length c.args.second.now) _ b_is) c.in_ok-b.ensures.bound
+    (told_count _ _ b_is ∙ counted_is _ _ (length c.args.second.now)) (search rules)
     ∙ ap₂ (λ t p. numbers t (after t p) c.in_ok-b.b) text₁ at₁ in
     let x_fits : SFits w32 (get_or c.fill.new.out 0 (pos 0)) = search rules in
     let y_fits : SFits w32 (get_or c.fill.new.out 1 (pos 0)) = search rules in
