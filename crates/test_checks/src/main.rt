@@ -9,20 +9,18 @@ mod call;
 mod told;
 
 use call::tried;
+use loading::load;
 use told::{for_c, plain};
-use trials::lines::file;
+use trials::TEXT;
+use trials::lines::lines;
 
+// The file is read once, so that both tallies are of one text.
 fn main(rt: HostRuntime) {
-    let tally = file(
-        &rt,
-        "checks.txt",
-        |words, call| tried(&rt, words, call, plain),
-    );
+    let mut text = [0u8; TEXT];
+    let n = load(&rt, "checks.txt", &mut text);
+    let text = &text[..n];
+    let tally = lines(&rt, text, |words, call| tried(&rt, words, call, plain));
     let _ = println!(&rt; "checks.txt: {tally}");
-    let tally = file(
-        &rt,
-        "checks.txt",
-        |words, call| tried(&rt, words, call, for_c),
-    );
+    let tally = lines(&rt, text, |words, call| tried(&rt, words, call, for_c));
     let _ = println!(&rt; "checks.txt, for C: {tally}");
 }

@@ -2,7 +2,7 @@
 // of the cases is compared too.
 use checker::Fault;
 use checker::flat::iravikkon_check;
-use pair::Which;
+use pair::{Refusal, Which};
 use recorded::words::Words;
 use std::fmt;
 
@@ -59,7 +59,13 @@ fn numbered_at(number: u32, place: usize, drawing: Which) -> Told {
 pub fn plain(first: &[i32], second: &[i32], list: &[u8]) -> Told {
     match checker::check(first, second, list) {
         Ok(()) => numbered(0),
-        Err(Fault::Pair(refusal)) => numbered(u32::from(u8::from(refusal))),
+        Err(Fault::Pair(Refusal::Unlike)) => numbered(1),
+        Err(Fault::Pair(Refusal::FirstOutOfRange)) => numbered(3),
+        Err(Fault::Pair(Refusal::FirstNotSimple)) => numbered(4),
+        Err(Fault::Pair(Refusal::FirstNotAnticlockwise)) => numbered(5),
+        Err(Fault::Pair(Refusal::SecondOutOfRange)) => numbered(6),
+        Err(Fault::Pair(Refusal::SecondNotSimple)) => numbered(7),
+        Err(Fault::Pair(Refusal::SecondNotAnticlockwise)) => numbered(8),
         Err(Fault::NoList) => numbered(21),
         Err(Fault::NoCutting) => numbered(22),
         Err(Fault::Unseen { place, drawing }) => numbered_at(23, place, drawing),

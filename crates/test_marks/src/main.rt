@@ -14,19 +14,17 @@ mod got;
 
 use call::tried;
 use got::{for_c, plain};
-use trials::lines::file;
+use loading::load;
+use trials::TEXT;
+use trials::lines::lines;
 
+// The file is read once, so that both tallies are of one text.
 fn main(rt: HostRuntime) {
-    let tally = file(
-        &rt,
-        "marks.txt",
-        |words, call| tried(&rt, words, call, plain),
-    );
+    let mut text = [0u8; TEXT];
+    let n = load(&rt, "marks.txt", &mut text);
+    let text = &text[..n];
+    let tally = lines(&rt, text, |words, call| tried(&rt, words, call, plain));
     let _ = println!(&rt; "marks.txt: {tally}");
-    let tally = file(
-        &rt,
-        "marks.txt",
-        |words, call| tried(&rt, words, call, for_c),
-    );
+    let tally = lines(&rt, text, |words, call| tried(&rt, words, call, for_c));
     let _ = println!(&rt; "marks.txt, for C: {tally}");
 }

@@ -1,7 +1,10 @@
 // A drawing of the file: read, and its calls run.
+ghost use Rattle.std.specs.Prelude.{◌≤◌, IfSome};
+ghost use Rattle.limits.specs.Limits.{all_cells};
+
 use crate::call::{BUFFER, right};
 use drawing::Unsound;
-use limits::{MOST_CORNERS, MOST_NUMBERS, ROW};
+use limits::{ALL_CELLS, MOST_CORNERS, MOST_NUMBERS, ROW};
 use recorded::lent::fill;
 use recorded::words::Words;
 use trials::lines::Call;
@@ -43,16 +46,23 @@ fn row(word: &[u8], out: &mut [u8]) -> Option<()> {
     Some(())
 }
 
-// A word for each of n corners.
-pub fn rows(words: &mut Words, n: usize, out: &mut [u8; BUFFER]) -> Option<()> {
-    for told in out.chunks_exact_mut(ROW).take(n) {
+// A word for each of n corners; how many cells were read.
+pub fn rows(words: &mut Words, n: usize, out: &mut [u8; BUFFER]) -> Option<usize>
+    ensures { IfSome result (λ cells. cells ≤ all_cells) }
+{
+    let mut cells = 0;
+    // the last row of the buffer is for no corner
+    for told in out[..ALL_CELLS].chunks_exact_mut(ROW).take(n) {
         row(words.word(), told.get_mut(..n)?)?;
+        cells += n;
     }
-    Some(())
+    Some(cells)
 }
 
 // The drawing that begins at the next word. The rows stand after its judgement; one that is not sound has none.
-pub fn tried(rt: &impl Print, words: &mut Words, call: Call) -> Option<Told> {
+pub fn tried(rt: &impl Print, words: &mut Words, call: Call) -> Option<Told>
+    ensures { IfSome result (λ told. told.cells ≤ all_cells) }
+{
     let mut xy = [0i32; MOST_NUMBERS];
     let mut after = [0u8; BUFFER];
     fill(&mut after);
@@ -60,11 +70,13 @@ pub fn tried(rt: &impl Print, words: &mut Words, call: Call) -> Option<Told> {
     let xy = &mut xy[..2 * n];
     words.fill(xy)?;
     let due = judgement(words.word())?;
-    if due.is_ok() {
-        rows(words, n, &mut after)?;
-    }
+    let cells = if due.is_ok() {
+        rows(words, n, &mut after)?
+    } else {
+        0
+    };
     Some(Told {
-        cells: if due.is_ok() { (n * n) as u64 } else { 0 },
+        cells: cells as u64,
         right: right(rt, call, xy, BUFFER, due, &after)?,
     })
 }

@@ -1,5 +1,5 @@
 // One input through `terminal`, held to its output.
-ghost use Rattle.std.specs.Prelude.{◌<◌, ◌≤◌, length, IfOk};
+ghost use Rattle.std.specs.Prelude.{◌<◌, ◌≤◌, length, IfErr, IfOk};
 
 use limits::MOST_NUMBERS;
 use recorded::lent::agree;
@@ -25,7 +25,8 @@ fn held(
     met: usize,
 ) -> Result<(Session, usize), usize>
     requires { met ≤ length expected.now }
-    ensures { IfOk result (λ r. r.1 ≤ length expected.now) }
+    ensures met { IfOk result (λ r. r.1 ≤ length expected.now) }
+    ensures differs { IfErr result (λ bytes. bytes ≤ length expected.now) }
 {
     let Ok(Ran { session, len }) = ran else {
         return Err(met);
@@ -37,12 +38,13 @@ fn held(
     if due.starts_with(written) {
         Ok((session, met + len))
     } else {
-        Err(met.saturating_add(agree(due, written)))
+        Err(met + agree(due, written))
     }
 }
 
 fn replay(input: &[u8], expected: &[u8], size: usize) -> Result<(), Found>
     requires { 0 < size }
+    ensures { IfErr result (λ found. found.bytes ≤ length expected.now) }
 {
     let mut first = [0i32; MOST_NUMBERS];
     let mut second = [0i32; MOST_NUMBERS];
@@ -63,7 +65,9 @@ fn replay(input: &[u8], expected: &[u8], size: usize) -> Result<(), Found>
 }
 
 // The input in chunks as the program reads them, and of 4,096, 7 and 1 bytes.
-pub fn tried(input: &[u8], expected: &[u8]) -> Result<(), Found> {
+pub fn tried(input: &[u8], expected: &[u8]) -> Result<(), Found>
+    ensures { IfErr result (λ found. found.bytes ≤ length expected.now) }
+{
     replay(input, expected, CHUNK)?;
     replay(input, expected, 4096)?;
     replay(input, expected, 7)?;
